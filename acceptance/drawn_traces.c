@@ -16,7 +16,7 @@
 
 enum { DRIVERS = 22, MOST_OPEN = 36, MOST_BYTES = 65536 };
 
-static uint8_t scenario[MOST_BYTES];
+static char scenario[MOST_BYTES];
 static size_t scenario_bytes;
 
 static void fail(const char *what, unsigned long seed) {
@@ -59,15 +59,15 @@ static void print_trace(uint32_t version, unsigned long seed, unsigned long edge
     struct vmebus_draws draws;
     uint32_t wires[DRIVERS], edge;
     for (int at = 0; at < DRIVERS; at++) wires[at] = 0xffff;
-    vmebus_draws(&draws, seed);
+    vmebus_seed(&draws, seed);
     printf("vme %u\n", version);
     unsigned long made = 0;
     while (made < edges) {
-        uint8_t line[16];
+        char line[16];
         if (vmebus_draw(&bus, &draws, wires, DRIVERS, &edge) != 0) break;
         uint32_t bytes = vmebus_spell(VMEBUS_DRIVER(edge), VMEBUS_WIRE(edge), VMEBUS_FALL(edge),
                                       VMEBUS_VALUE(edge), line, sizeof line);
-        printf("%.*s\n", (int)bytes, (const char *)line);
+        printf("%.*s\n", (int)bytes, line);
         step(&bus, edge, seed);
         made++;
     }
@@ -82,7 +82,7 @@ static void look_at_masks(uint32_t version, unsigned long seed, unsigned long ed
     struct vmebus_draws draws, zeros;
     uint32_t wires[DRIVERS], edge, number = (uint32_t)seed * 2654435761u + 1;
     memset(&zeros, 0, sizeof zeros);
-    vmebus_draws(&draws, seed);
+    vmebus_seed(&draws, seed);
     for (unsigned long made = 0; made < edges; made++) {
         bool among;
         for (int at = 0; at < DRIVERS; at++) {

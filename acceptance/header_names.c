@@ -89,13 +89,33 @@ static const struct name conditions[] = {
     {"the other state", VMEBUS_CONDITION_OTHER_STATE},
 };
 
+static const struct name faults[] = {
+    {"P1", VMEBUS_FAULT_P1},
+    {"P2", VMEBUS_FAULT_P2},
+    {"P3", VMEBUS_FAULT_P3},
+    {"P4", VMEBUS_FAULT_P4},
+    {"P5", VMEBUS_FAULT_P5},
+    {"P6", VMEBUS_FAULT_P6},
+    {"P7", VMEBUS_FAULT_P7},
+    {"P8", VMEBUS_FAULT_P8},
+    {"P9", VMEBUS_FAULT_P9},
+    {"Q1", VMEBUS_FAULT_Q1},
+    {"Q2", VMEBUS_FAULT_Q2},
+    {"Q3", VMEBUS_FAULT_Q3},
+    {"Q4", VMEBUS_FAULT_Q4},
+    {"Q6", VMEBUS_FAULT_Q6},
+    {"F2", VMEBUS_FAULT_F2},
+    {"X1", VMEBUS_FAULT_X1},
+    {"SIZE", VMEBUS_FAULT_SIZE},
+};
+
 /* The numbers of an edge. */
 struct edge {
     uint32_t driver, wire, fall, value;
 };
 
 struct text {
-    uint8_t *bytes;
+    char *bytes;
     size_t length;
 };
 
@@ -129,7 +149,7 @@ static uint32_t wire_of(const char *word) {
 }
 
 /* The numbers of the edge that a line spells. */
-static struct edge edge_of(const uint8_t *line, size_t bytes) {
+static struct edge edge_of(const char *line, size_t bytes) {
     char text[MOST_BYTES + 1] = "", wire[8] = "", sign = 0, kind = 0;
     unsigned driver = VMEBUS_CONTROLLER, argument = 0;
     memcpy(text, line, bytes < MOST_BYTES ? bytes : MOST_BYTES);
@@ -156,9 +176,9 @@ static struct edge edge_in(uint32_t word) {
 
 /* Prints an edge as the library spells it. */
 static void print_edge(struct edge it) {
-    uint8_t line[MOST_BYTES];
-    uint32_t bytes = vmebus_spell(it.driver, it.wire, it.fall, it.value, line, sizeof line);
-    printf("%.*s", (int)bytes, (const char *)line);
+    char line[VMEBUS_MOST_LINE + 1] = "";
+    vmebus_spell(it.driver, it.wire, it.fall, it.value, line, sizeof line);
+    printf("%s", line);
 }
 
 /* Prints the conditions that an edge fails: each by its name, and as the library writes it. */
@@ -166,13 +186,12 @@ static void print_failing(const struct vmebus *bus, struct edge it) {
     uint32_t numbers[8];
     uint32_t count = vmebus_failing(bus, it.driver, it.wire, it.fall, it.value, numbers, 8);
     for (uint32_t place = 0; place < count; place++) {
-        uint8_t text[MOST_BYTES];
-        uint32_t bytes =
-            vmebus_why(bus, it.driver, it.wire, it.fall, it.value, place, text, sizeof text);
+        char text[VMEBUS_MOST_WHY + 1] = "";
+        vmebus_why(bus, it.driver, it.wire, it.fall, it.value, place, text, sizeof text);
         printf("fails");
         for (size_t at = 0; at < sizeof conditions / sizeof *conditions; at++)
             if (conditions[at].number == numbers[place]) printf(" %s", conditions[at].name);
-        printf(": %.*s\n", (int)bytes, (const char *)text);
+        printf(": %s\n", text);
     }
 }
 
@@ -199,17 +218,26 @@ static void print_drivers(const struct vmebus *bus) {
         print_driver(bus, driver);
 }
 
-/* Prints the version of the header, and whether the library is of another build. */
+/* Prints the version of the header, whether the library is of another build, and the numbers of rooms and faults. */
 static void print_build(void) {
     uint32_t numbers[4] = {0, 0, 0, 0}, version = VMEBUS_VERSION;
     printf("version %u.%u.%u\n", version >> 16, version >> 8 & 0xff, version & 0xff);
-    if (vmebus_build(numbers, 4) != 3 || numbers[0] != version || numbers[1] != VMEBUS_WORDS ||
+    if (vmebus_build(numbers, 4) != VMEBUS_MOST_BUILD || numbers[0] != version || numbers[1] != VMEBUS_WORDS ||
         numbers[2] != VMEBUS_DRAWS_WORDS)
         puts("the library is of another build");
+    printf("most fault %u verdict %u failing %u why %u line %u open %u build %u masks %u\n", VMEBUS_MOST_FAULT,
+           VMEBUS_MOST_VERDICT, VMEBUS_MOST_FAILING, VMEBUS_MOST_WHY, VMEBUS_MOST_LINE, VMEBUS_MOST_OPEN, VMEBUS_MOST_BUILD,
+           VMEBUS_MASKS);
+    printf("faults");
+    for (size_t at = 0; at < sizeof faults / sizeof *faults; at++) printf(" %s %u", faults[at].name, faults[at].number);
+    putchar('\n');
 }
 
-/* Prints an answer, with what is delivered. */
+/* Prints an answer, with what is delivered. The library writes the same of an answer to an edge. */
 static void print_answer(uint32_t answer, uint32_t delivered) {
+    char verdict[VMEBUS_MOST_VERDICT + 1] = "";
+    vmebus_verdict(answer, delivered, verdict, sizeof verdict);
+    printf("%s: ", verdict);
     if (VMEBUS_IS_REFUSED(answer)) {
         uint32_t error = VMEBUS_ERROR(answer);
         printf("E%u", error);
@@ -254,14 +282,26 @@ static void print_bus(const struct vmebus *bus) {
     }
 }
 
-/* Prints the fault of a scenario, or of the trace's version, by its name. */
+/* Prints the fault of a scenario, of the trace's version, or of a size, by its name. */
 static void print_fault(uint32_t fault) {
-    if (fault == 31)
-        puts("X1");
-    else if (fault == 20)
-        puts("F2");
-    else
-        printf("%c%u\n", fault > 10 ? 'Q' : 'P', fault % 10);
+    for (size_t at = 0; at < sizeof faults / sizeof *faults; at++)
+        if (faults[at].number == fault) printf("%s", faults[at].name);
+    putchar('\n');
+}
+
+/* Prints how a bus and draws of another size are answered. */
+static void print_sizes(struct text scenario) {
+    struct vmebus bus;
+    struct vmebus_draws draws;
+    print_fault(vmebus_open_sized(&bus, sizeof bus - 60, 1, scenario.bytes, scenario.length));
+    print_fault(vmebus_seed_sized(&draws, sizeof draws + 4, 1));
+}
+
+/* Prints the line of the fault of a version and a scenario. */
+static void print_line_of_fault(uint32_t version, struct text scenario) {
+    char line[VMEBUS_MOST_FAULT + 1] = "";
+    vmebus_fault_text(version, scenario.bytes, scenario.length, line, sizeof line);
+    puts(line);
 }
 
 /* Opens a bus at the head of a room of some byte. A bus takes its own words, and no byte behind. */
@@ -286,14 +326,14 @@ static void print_no_edge(struct vmebus *bus) {
     uint32_t answer = vmebus_step(&zeros, VMEBUS_CONTROLLER, VMEBUS_BG3, 1, 0, &delivered);
     print_answer(answer, delivered);
     delivered = 1;
-    answer = vmebus_line(bus, (const uint8_t *)"", 0, &delivered);
+    answer = vmebus_line(bus, "", 0, &delivered);
     print_answer(answer, delivered);
     delivered = 1;
     answer = vmebus_step(bus, MOST_SLOTS + 1, VMEBUS_BR, 1, 0, &delivered);
     print_answer(answer, delivered);
     struct vmebus_draws draws;
     uint32_t wires[1] = {0}, edge;
-    vmebus_draws(&draws, 0);
+    vmebus_seed(&draws, 0);
     answer = vmebus_draw(bus, &draws, wires, 1, &edge);
     puts(answer == VMEBUS_NONE_OPEN ? "none open" : "an edge is drawn");
 }
@@ -335,17 +375,19 @@ static void judge(struct text scenario, struct text trace) {
     open_within(&by_numbers, 0xff, version, scenario);
     if (fault != 0) {
         print_fault(fault);
+        print_line_of_fault(version, scenario);
         return;
     }
     if (memcmp(&by_line, &by_numbers, sizeof by_line) != 0) puts("a bus is shorter than its words");
     print_build();
+    print_sizes(scenario);
     print_no_edge(&by_numbers);
     print_bus(&by_numbers);
     print_drivers(&by_numbers);
-    const uint8_t *line = trace.bytes + 6, *end = trace.bytes + trace.length, *feed;
+    const char *line = trace.bytes + 6, *end = trace.bytes + trace.length, *feed;
     for (unsigned long number = 1; (feed = memchr(line, '\n', (size_t)(end - line))); number++) {
         printf("%lu ", number);
-        struct text text = {(uint8_t *)line, (size_t)(feed - line)};
+        struct text text = {(char *)line, (size_t)(feed - line)};
         if (!follow(&by_line, &by_numbers, text)) break;
         line = feed + 1;
     }

@@ -22,7 +22,7 @@ static ucontext_t outside, inside;
 static uint8_t *stack;
 static size_t stack_bytes;
 
-static uint8_t text[MOST_BYTES];
+static char text[MOST_BYTES];
 static size_t text_bytes;
 static struct vmebus bus;
 static uint32_t fault;
@@ -59,17 +59,19 @@ static size_t written_by(void (*work)(void)) {
 
 static void open_bus(void) {
     struct vmebus before = bus;
+    char line[VMEBUS_MOST_FAULT];
     fault = vmebus_open(&bus, 1, text, text_bytes);
     if (fault != 0) bus = before;
+    vmebus_fault_text(1, text, text_bytes, line, sizeof line);
 }
 
 /* Asks of an edge and its driver all that there is to ask. */
 static uint32_t ask(uint32_t driver, uint32_t wire, uint32_t fall, uint32_t value) {
     uint32_t numbers[36];
-    uint8_t line[64];
+    char line[64];
     struct vmebus_draws draws;
-    vmebus_draws(&draws, driver);
-    return vmebus_failing(&bus, driver, wire, fall, value, numbers, 36) |
+    vmebus_seed(&draws, driver);
+    return vmebus_verdict(driver, value, line, sizeof line) | vmebus_failing(&bus, driver, wire, fall, value, numbers, 36) |
            vmebus_why(&bus, driver, wire, fall, value, 0, line, sizeof line) |
            vmebus_spell(driver, wire, fall, value, line, sizeof line) |
            vmebus_open_edges(&bus, driver, numbers, 36) | vmebus_low(&bus, driver, wire) |
@@ -81,7 +83,7 @@ static void draw_edges(void) {
     uint32_t wires[22], edge, told;
     struct vmebus_draws draws;
     for (int at = 0; at < 22; at++) wires[at] = 0xffff;
-    vmebus_draws(&draws, 1);
+    vmebus_seed(&draws, 1);
     for (int left = 200; left > 0; left--)
         if (vmebus_draw(&bus, &draws, wires, 22, &edge) == 0)
             vmebus_step(&bus, VMEBUS_DRIVER(edge), VMEBUS_WIRE(edge), VMEBUS_FALL(edge),

@@ -21,7 +21,7 @@ OWN(rattle_realloc)
 OWN(rattle_dealloc)
 
 int main(int count, char **words) {
-    static uint8_t scenario[4096];
+    static char scenario[4096];
     static struct vmebus bus;
     FILE *file = count > 1 ? fopen(words[1], "rb") : NULL;
     size_t bytes = file ? fread(scenario, 1, sizeof scenario, file) : 0;

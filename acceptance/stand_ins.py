@@ -35,19 +35,37 @@ END
 chmod +x "$2/bench"
 """
 
-# What stands in for ghdl: the bench of the monitor prints its moments.
-GHDL = r"""#!/bin/bash
-if [[ $1 == -r ]]; then
-    printf '%s\n' 'vme 1' @2 '2 br-' @3 'c bg3-' @4 '2 addr- r21' @5 '2 bbsy-' '2 br+' '2 addr+' >moments.vme
-fi
+# What stands in for ghdl: the bench of the monitor prints what acceptance/clocked says that it has to.
+WATCHES = """#!/usr/bin/env python3
+import importlib.machinery, importlib.util, os
+loader = importlib.machinery.SourceFileLoader("clocked", os.environ["STUB_CLOCKED"])
+clocked = importlib.util.module_from_spec(importlib.util.spec_from_loader("clocked", loader))
+loader.exec_module(clocked)
+rows = open("rows").read()
+for watched, _ in clocked.WATCHED.values():
+    if any(rows == clocked.rows_of(watched, lacks) for _, lacks, *_ in clocked.LANGUAGES.values()):
+        open("moments.vme", "w").write(clocked.moments_of(watched))
+"""
+GHDL = """#!/bin/bash
+if [[ $1 == -r ]]; then "${0%/*}/vvp"; fi
 """
 
-# What stands in for vvp does the same.
-VVP = GHDL.replace("if [[ $1 == -r ]]; then", "if true; then")
+# What stands in for verilator makes the bench that does the same.
+VERILATOR = """#!/bin/bash
+cp "${0%/*}/vvp" bench
+"""
 
-# What stands in for the program in `order`: it refuses the designs of the example that have a bug, and too little slack.
+# What stands in for the program in `order`: it refuses the designs of the example that have a bug, and too little slack; and in
+# `cycles`, behind `order` of the wrong designs that the monitors watch.
 ORDER = """#!/bin/bash
-if [[ "$*" != *plain.vme* && "$*" != *synchronized.vme*c=2* ]]; then exit 2; fi
+if [[ $1 == cycles ]]; then
+    if grep -q dtack moments.vme; then
+        printf '9 refused %s\\n' '2 dtack- E3 G25' '2 irq+ E3 G22'
+    else
+        printf '9 refused %s\\n' '1 ds+ E3 G18' '1 addr+ E3 G19' '1 as+ E3 G20'
+    fi
+fi
+if [[ "$*" != *plain.vme* && "$*" != *\ waits.vme* && "$*" != *early.vme* && "$*" != *synchronized.vme*c=2* ]]; then exit 2; fi
 """
 
 # What stand in for the tools of acceptance/benches: programs that print each number as 0, a bench that finds each wrong design
@@ -62,6 +80,8 @@ esac
 """
 MAKE_BENCHES = """#!/bin/bash
 if [[ "$*" == *" run "* ]]; then
+    if [[ "$*" == *=no/vmebus* ]]; then echo "there is no program no/vmebus: build it"; exit 2; fi
+    if [[ "$*" == *=*/Makefile* ]]; then echo "vmebus: Q1 line 1 is no TOML"; exit 2; fi
     for it in "$@"; do if [[ $it == SCENARIO=* ]]; then it=${it#*=}; cat "${it%/*}/expected"; fi; done
     exit
 fi
@@ -74,7 +94,7 @@ case "$*" in
     *seed=20*) ends=overtaken ;;
     *takes-*) why 'fails own bgout is high (profile)' ;;
     *leaves-*) why 'fails own grant-in is high (profile)' ;;
-    *passes-*) why 'fails own br is high' ;;
+    *passes-*) why 'fails own bbsy is high' ;;
     *withdraws*) why 'fails own bbsy is low (profile)' ;;
     *drives-*) why 'fails AS* is high' ;;
 esac
@@ -122,10 +142,19 @@ cp "$STUB" "$2"
 NM = """#!/bin/bash
 echo "0000 T ${STUB_EXPORTS:-vmebus_open}"
 """
+PKG_CONFIG = """#!/bin/bash
+prefix=${PKG_CONFIG_PATH%/lib/pkgconfig}
+echo "-I$prefix/include -L$prefix/lib -lvmebus"
+"""
+
 SHARED = """#!/bin/bash
 cp "$1" "$2"
 """
 BENCH_OF_PAGE = """# A page
+
+```sh
+mkdir /tmp/bench && cd /tmp/bench
+```
 
 ```python
 print("1 br-: ok")
@@ -135,6 +164,10 @@ It prints:
 
 ```text
 1 br-: ok
+```
+
+```sh
+python3 bench.py
 ```
 """
 HEADER = """#define VMEBUS_H

@@ -1,10 +1,18 @@
 """Commands that run side by side, and end together when the runner is stopped."""
 
+from __future__ import annotations
+
 import os
 import signal
 import subprocess
 import threading
+from concurrent.futures import ThreadPoolExecutor, as_completed
 from dataclasses import dataclass
+from typing import Callable, Iterable, Iterator, TypeVar
+
+
+# What one of the tasks of a lane makes.
+Made = TypeVar("Made")
 
 
 class Stopped(Exception):
@@ -13,55 +21,67 @@ class Stopped(Exception):
 
 @dataclass(frozen=True)
 class Ended:
-    """How a command ended: its status, what it printed, its seconds of processor time, and how many it had spent at each line."""
+    """How a command ended: its status, what it printed, and its seconds of processor time."""
 
     status: int
     said: str
     seconds: float
-    times: tuple
 
 
 class Commands:
-    """The commands that run now."""
+    """The commands that run now, and the seconds of processor time of those that have ended."""
 
-    def __init__(self):
-        self.running, self.lock, self.is_stopped = set(), threading.Lock(), False
+    def __init__(self) -> None:
+        self.running, self.lock, self.is_stopped, self.seconds = set(), threading.Lock(), False, 0.0
 
-    def call(self, words, folder, environment=None, at_line=lambda: None):
-        """Runs a command in a folder, calls at_line whenever it has printed a line, and returns how it ended."""
+    def call(self, words: list[str], folder: str, environment: dict[str, str] | None = None, at_line: Callable[[str], bool | None] = lambda _: None) -> Ended:
+        """Runs a command in a folder, and returns how it ended. What is done at each line that it prints may ask it to end."""
         with self.lock:
             if self.is_stopped:
                 raise Stopped
             how = {"cwd": folder, "env": environment, "stdin": subprocess.DEVNULL, "stdout": subprocess.PIPE, "stderr": subprocess.STDOUT}
-            made = subprocess.Popen(words, start_new_session=True, text=True, errors="replace", **how)
-            self.running.add(made)
-        be_as_nice(made.pid)
-        lines, times = [], []
+            command = subprocess.Popen(words, start_new_session=True, text=True, errors="replace", **how)
+            self.running.add(command)
+        be_as_nice(command.pid)
+        lines, seconds = [], 0.0
         try:
-            for line in made.stdout:
+            for line in command.stdout:
                 lines.append(line)
-                times.append(spent(made.pid))
-                at_line()
-            status, seconds = reaped(made)
+                if at_line(line):
+                    command.terminate()
+            status, seconds = reaped(command)
         except BaseException:
-            end(made)
+            end(command)
             raise
         finally:
             with self.lock:
-                self.running.discard(made)
+                self.running.discard(command)
+                self.seconds += seconds
         if self.is_stopped:
             raise Stopped
-        return Ended(status, "".join(lines), seconds, tuple(times))
+        return Ended(status, "".join(lines), seconds)
 
-    def stop(self):
+    def stop(self) -> None:
         """Ends all that run, with what they started."""
         with self.lock:
             self.is_stopped = True
-            for it in self.running:
-                end(it)
+            for command in self.running:
+                end(command)
 
 
-def be_as_nice(process):
+def in_lanes(commands: Commands, tasks: Iterable[Callable[[], Made]], jobs: int) -> Iterator[Made]:
+    """Does tasks in so many lanes side by side, and yields what each made. One that fails ends the others."""
+    with ThreadPoolExecutor(jobs) as pool:
+        try:
+            for lane in as_completed([pool.submit(task) for task in tasks]):
+                yield lane.result()
+        except BaseException:
+            commands.stop()
+            pool.shutdown(cancel_futures=True)
+            raise
+
+
+def be_as_nice(process: int) -> None:
     """Makes a session as nice as this process is: where the kernel shares the processors by sessions, it asks no process of one."""
     try:
         with open(f"/proc/{process}/autogroup", "w", encoding="utf-8") as group:
@@ -70,7 +90,7 @@ def be_as_nice(process):
         pass
 
 
-def reaped(command):
+def reaped(command: subprocess.Popen) -> tuple[int, float]:
     """Waits for a command's end, and returns its status and its seconds of processor time, with those of what it started."""
     _, status, used = os.wait4(command.pid, 0)
     command.returncode = -os.WTERMSIG(status) if os.WIFSIGNALED(status) else os.WEXITSTATUS(status)
@@ -78,17 +98,7 @@ def reaped(command):
     return command.returncode, used.ru_utime + used.ru_stime
 
 
-def spent(process):
-    """The seconds of processor time that a process has spent so far."""
-    try:
-        with open(f"/proc/{process}/stat", encoding="utf-8", errors="replace") as text:
-            fields = text.read().rpartition(")")[2].split()
-    except OSError:
-        return 0
-    return sum(map(int, fields[11:13])) / os.sysconf("SC_CLK_TCK")
-
-
-def end(command):
+def end(command: subprocess.Popen) -> None:
     """Ends a command, with what it started."""
     try:
         os.killpg(command.pid, signal.SIGKILL)

@@ -1,24 +1,31 @@
 """Copies of definitions, each with one edit, below a copy of the law that has to refuse it.
 
-A definition affects the proofs of many functions, so an edit of one has to be refused at the law that gate/singly names. Alone it would
+A definition affects the proofs of many functions, so an edit of one has to be refused at the law that its file names. Alone it would
 take a check of its own, most of which is the same for every edit. So the file with the edit is copied, and with it each file of specs/
 and proofs/ through which the law rests on it, and the law, in a file of src/ of its own. Copies name copies, and nothing else names
 them: so none of these edits affects another, and nothing else in the crate is changed. An edit is made in its place, alone, if what
 has to refuse it is no law of src/laws.rt, or if it is not refused at the copy. If something else of the crate lay between, such as a
-function or what a type promises, the copy would be refused without an edit too: gate/unedited would find it.
+function or what a type promises, the copy would be refused without an edit too.
 """
 
+from __future__ import annotations
+
 import re
+from typing import Tuple
 
 import edit_files
 import sources
-from copies import WITH, front_of
+from copies import WITH
+from edit_files import Edit
+from sources import Texts
 
 LAWS = "laws"
 PROOFS = f"proofs/{LAWS}"
 PARTS = ("specs", "proofs")
 FILE = re.compile(r"(specs|proofs)/(?!Lib\b)(\w+)\.antt")
 ROOT = "src/lib.rt"
+# A file of definitions or proofs, as its part and its name.
+Module = Tuple[str, str]
 DECLARED = re.compile(rf"^((?:pub(?:\([a-z]+\))? )?mod ){LAWS};\n", re.M)
 IMPORT = re.compile(r"ghost use ([\w.]+)\.\{(.*)\};")
 
@@ -26,134 +33,125 @@ IMPORT = re.compile(r"ghost use ([\w.]+)\.\{(.*)\};")
 class Copy:
     """The copy of a law, and of the files between it and the definition that carries an edit."""
 
-    def __init__(self, crate, name, texts, law, between):
+    def __init__(self, crate: str, name: str, texts: Texts, law: "Law", between: list[Module]) -> None:
         self.crate, self.law, self.between, self.end = crate, law, between, f"{WITH}{name}"
-        own = {it: text for it, text in texts.items() if it.startswith(f"{PROOFS}/{law.name}/")}
-        self.texts = {self.file_of(it): self.renamed(texts[file_of(it)]) for it in between}
-        self.texts |= {f"{PROOFS}{self.end}{it[len(PROOFS):]}": self.renamed(text) for it, text in own.items()}
+        own = {file: text for file, text in texts.items() if file.startswith(f"{PROOFS}/{law.name}/")}
+        self.texts = {self.file_of(module): self.renamed(texts[file_of(module)]) for module in between}
+        self.texts.update({f"{PROOFS}{self.end}{file[len(PROOFS):]}": self.renamed(text) for file, text in own.items()})
         self.texts[f"src/{LAWS}{self.end}.rt"] = self.renamed("\n".join(law.alone(crate, between)))
 
     @property
-    def own_path(self):
+    def own_path(self) -> str:
         """The end of the path of the copy of the law."""
         return f"{LAWS}{self.end}::{self.law.name}"
 
-    def file_of(self, module):
+    def file_of(self, module: Module) -> str:
         """The file of the copy of a module."""
         return file_of((module[0], f"{module[1]}{self.end}"))
 
-    def renamed(self, text):
+    def renamed(self, text: str) -> str:
         """A text in which the names of what is copied are those of the copies."""
-        text = names(self.crate).sub(lambda it: f"{it[0]}{self.end}" if (it[1], it[2]) in self.between else it[0], text)
-        text = re.sub(r"\bcrate::(specs|proofs)::(\w+)", lambda it: f"{it[0]}{self.end}" if (it[1], it[2]) in self.between else it[0], text)
+        text = names(self.crate).sub(self.renamed_name, text)
+        text = re.sub(r"\bcrate::(specs|proofs)::(\w+)", self.renamed_name, text)
         return re.sub(rf"\bRattle\.{self.crate}\.(proofs|specs\.contracts)\.{LAWS}\.{self.law.name}\b", rf"Rattle.{self.crate}.\1.{LAWS}{self.end}.{self.law.name}", text)
 
-    def lines(self, part):
+    def renamed_name(self, name: re.Match) -> str:
+        """The name of the copy of a module that is copied, or the name of another as it is."""
+        return f"{name[0]}{self.end}" if (name[1], name[2]) in self.between else name[0]
+
+    def lines(self, part: str) -> str:
         """The lines that declare the copies of a part's files."""
-        return "".join(f"pub mod {name}{self.end}\n" for it, name in self.between if it == part)
+        return "".join(f"pub mod {name}{self.end}\n" for of_part, name in self.between if of_part == part)
 
 
 class Law:
     """A law of src/laws.rt: its name, its lines, and those above all functions of the file."""
 
-    def __init__(self, name, head, lines):
+    def __init__(self, name: str, head: list[str], lines: list[str]) -> None:
         self.name, self.head, self.lines, self.text = name, head, lines, "\n".join(lines)
 
-    def uses(self, line):
+    def uses(self, line: str) -> bool:
         """Whether a line that imports definitions imports one that the law names."""
         match = IMPORT.fullmatch(line.strip())
-        found = [it.partition(" as ")[2] or it for it in match[2].split(", ")] if match else []
-        return any(re.search(rf"(?<!\w){re.escape(part)}(?!\w)", self.text) for it in found for part in it.split("◌") if part)
+        imported = [name.partition(" as ")[2] or name for name in match[2].split(", ")] if match else []
+        return any(re.search(rf"(?<!\w){re.escape(part)}(?!\w)", self.text) for name in imported for part in name.split("◌") if part)
 
-    def alone(self, crate, between):
+    def alone(self, crate: str, between: list[Module]) -> list[str]:
         """The lines of a file that has this law alone: it imports of what is copied only what the law names."""
         left_out = lambda line: bool(set(names(crate).findall(line)) & set(between)) and not self.uses(line)
-        return [*(it for it in self.head if not left_out(it)), *self.lines, ""]
+        return [*(line for line in self.head if not left_out(line)), *self.lines, ""]
 
 
-def names(crate):
+def names(crate: str) -> re.Pattern:
     """The names of the modules that are files of a crate's specs/ and proofs/."""
     return re.compile(rf"\bRattle\.{crate}\.(specs|proofs)\.(\w+)")
 
 
-def file_of(module):
+def file_of(module: Module) -> str:
     return f"{module[0]}/{module[1]}.antt"
 
 
-def made_for(edit, texts):
+def made_for(edit: Edit, texts: Texts) -> Copy | None:
     """The copy of its law that carries an edit of a definition, or nothing if the edit is to be made in its place."""
-    found = to_copy(edit, texts)
-    return found and Copy(edit.crate, edit.name, edit_files.replaced(texts, edit), *found)
-
-
-def unedited(edit, texts):
-    """The copy of its law that an edit of a definition would have, without it."""
-    found = to_copy(edit, texts)
-    return found and Copy(edit.crate, f"nothing_edited_at_{edit.name}", texts, *found)
-
-
-def to_copy(edit, texts):
-    """The law that has to refuse an edit, and the files to copy for it, if it can be made in a copy."""
     law, edited = law_of(edit, texts), modules_of(edit)
-    if not law or not edited or not all(file_of(it) in texts for it in edited):
+    if not law or not edited or not all(file_of(module) in texts for module in edited):
         return None
     own = [text for file, text in texts.items() if file.startswith(f"{PROOFS}/{law.name}/")]
     roots = named(edit.crate, "\n".join([*own, *filter(law.uses, law.head)]), texts)
     between = between_of(edit.crate, texts, roots, edited)
-    return (law, between) if between else None
+    return Copy(edit.crate, edit.name, edit_files.replaced(texts, edit), law, between) if between else None
 
 
-def modules_of(edit):
+def modules_of(edit: Edit) -> set[Module]:
     """The modules that an edit edits, if all are files of specs/ or proofs/."""
     files = {file for file, _, _ in edit.pairs}
-    found = {(match[1], match[2]) for match in map(FILE.fullmatch, files) if match}
-    return found if len(found) == len(files) else set()
+    modules = {(match[1], match[2]) for match in map(FILE.fullmatch, files) if match}
+    return modules if len(modules) == len(files) else set()
 
 
-def law_of(edit, texts):
+def law_of(edit: Edit, texts: Texts) -> Law | None:
     """The law that has to refuse an edit, if it is one."""
     module, _, name = edit.at.rpartition("::")
     file = f"src/{LAWS}.rt"
     if module != LAWS or file not in texts or not DECLARED.search(texts.get(ROOT, "")):
         return None
-    found = sources.functions(edit.crate, file, texts[file])
-    lines = texts[file].split("\n")
-    fronts = {it.path: front_of(lines, it.first) for it in found}
-    law = [it for it in found if it.path.endswith(f"::{LAWS}::{name}")]
+    functions, lines = sources.functions(edit.crate, file, texts[file]), texts[file].split("\n")
+    fronts = {function.path: sources.front_of(lines, function.first) for function in functions}
+    law = [function for function in functions if function.path.endswith(f"::{LAWS}::{name}")]
     return Law(name, lines[: min(fronts.values())], lines[fronts[law[0].path] : law[0].end]) if len(law) == 1 else None
 
 
-def named(crate, text, texts):
+def named(crate: str, text: str, texts: Texts) -> set[Module]:
     """The files of a crate's definitions and proofs that a text names."""
-    return {it for it in names(crate).findall(text) if file_of(it) in texts}
+    return {module for module in names(crate).findall(text) if file_of(module) in texts}
 
 
-def between_of(crate, texts, roots, edited):
+def between_of(crate: str, texts: Texts, roots: set[Module], edited: set[Module]) -> list[Module]:
     """The files by which something that names these rests on what is edited, and the edited ones: none if it does not rest on all of them."""
     uses, left = {}, [*roots]
     while left:
-        it = left.pop()
-        if it not in uses:
-            uses[it] = named(crate, texts[file_of(it)], texts)
-            left += uses[it]
+        module = left.pop()
+        if module not in uses:
+            uses[module] = named(crate, texts[file_of(module)], texts)
+            left += uses[module]
     if not edited <= uses.keys():
         return []
-    found = set(edited)
-    while more := {it for it, others in uses.items() if it not in found and others & found}:
-        found |= more
-    return sorted(found)
+    between = set(edited)
+    while more := {module for module, others in uses.items() if module not in between and others & between}:
+        between |= more
+    return sorted(between)
 
 
-def beside(texts, copies):
+def beside(texts: Texts, copies: list[Copy]) -> Texts:
     """The texts of a crate with copies of definitions and laws beside them."""
     if not copies:
         return texts
     made = dict(texts)
     for part in PARTS:
-        made[f"{part}/Lib.antt"] = "".join([made.get(f"{part}/Lib.antt", ""), "\n", *(it.lines(part) for it in copies)])
+        made[f"{part}/Lib.antt"] = "".join([made.get(f"{part}/Lib.antt", ""), "\n", *(copy.lines(part) for copy in copies)])
     declared = DECLARED.search(made[ROOT])
-    lines = "".join(f"{declared[1]}{LAWS}{it.end};\n" for it in copies)
+    lines = "".join(f"{declared[1]}{LAWS}{copy.end};\n" for copy in copies)
     made[ROOT] = made[ROOT][: declared.end()] + lines + made[ROOT][declared.end() :]
-    for it in copies:
-        made |= it.texts
+    for copy in copies:
+        made.update(copy.texts)
     return made

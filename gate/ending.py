@@ -12,8 +12,11 @@ stays ignored if it was, since that is what `nohup` asks for.
 
 The last line is 'N passed, M failed', and the status is 0 only if M is 0 and N is above 0. Work fails
 if it ends without a total, by a signal, at a status other than 0 without a failure, or with nothing
-passed and nothing failed. Then a line says why, and the total counts it.
+passed and nothing failed. Then a line says why, and the total counts it. The status is 1, too, if
+what is printed cannot be written.
 """
+
+from __future__ import annotations
 
 import os
 import re
@@ -23,6 +26,7 @@ import signal
 import sys
 import tempfile
 import time
+from typing import Callable, Iterator, NoReturn, Optional
 
 SIGNALS = (signal.SIGINT, signal.SIGTERM, signal.SIGHUP)
 TOTAL = re.compile(rb"(\d+) passed, (\d+) failed\n?")
@@ -37,23 +41,23 @@ GUARDED = "VMEBUS_GUARDED"
 class Caught:
     """The signal that came first, if any."""
 
-    def __init__(self):
-        self.number = None
-        for it in SIGNALS:
-            if it != signal.SIGHUP or signal.getsignal(it) != signal.SIG_IGN:
-                signal.signal(it, self.note)
+    def __init__(self) -> None:
+        self.number: Optional[int] = None
+        for number in SIGNALS:
+            if number != signal.SIGHUP or signal.getsignal(number) != signal.SIG_IGN:
+                signal.signal(number, self.note)
 
-    def note(self, number, _):
+    def note(self, number: int, _: object) -> None:
         self.number = self.number or number
 
 
 class Relay:
     """Hands on what the work prints, but for a total at its end, which is kept until the work has ended."""
 
-    def __init__(self, reader):
+    def __init__(self, reader: Optional[int]) -> None:
         self.reader, self.kept, self.is_open, self.is_heard = reader, b"", True, True
 
-    def hear(self, seconds):
+    def hear(self, seconds: float) -> bool:
         """Hands on what comes within so many seconds, and returns whether anything came."""
         if not self.is_open or not select.select([self.reader], [], [], seconds)[0]:
             return False
@@ -65,29 +69,29 @@ class Relay:
         self.say(b"".join(lines))
         return self.is_open
 
-    def hear_rest(self):
+    def hear_rest(self) -> None:
         """Hands on what is there by now."""
         while self.is_heard and self.hear(0):
             pass
 
-    def say(self, text):
+    def say(self, text: bytes) -> None:
         """Prints, for as long as there is a reader."""
         try:
-            sys.stdout.buffer.write(text)
-            sys.stdout.buffer.flush()
+            while text:
+                text = text[os.write(sys.stdout.fileno(), text) :]
         except OSError:
             self.is_heard = False
             os.dup2(os.open(os.devnull, os.O_WRONLY), sys.stdout.fileno())
 
-    def total(self):
-        """The total that was kept, as two numbers, or None. A last line that is none is handed on."""
+    def total(self) -> Optional[tuple[int, int]]:
+        """The total that was kept, if any. A last line that is none is handed on."""
         found = TOTAL.fullmatch(self.kept)
         if self.kept and not found:
             self.say(self.kept.rstrip(b"\n") + b"\n")
-        return [int(it) for it in found.groups()] if found else None
+        return (int(found[1]), int(found[2])) if found else None
 
 
-def guard(name, work):
+def guard(name: str, work: Callable[[], int]) -> int:
     """Does a tool's work, and returns its status; `--help` is no work."""
     if {"-h", "--help"} & set(sys.argv[1:]):
         return work()
@@ -114,20 +118,20 @@ def guard(name, work):
     return closed(name, relay, *judged(relay.total(), status, caught, relay))
 
 
-def enter(name, room, writer):
+def enter(name: str, room: str, writer: int) -> None:
     """Makes this new process the leader of the work's session, with its own folder, and without a reader at its input."""
     os.setsid()
     os.dup2(os.open(os.devnull, os.O_RDONLY), 0)
     os.dup2(writer, 1)
     os.environ[GUARDED] = name
     os.environ["TMPDIR"] = tempfile.tempdir = room
-    for it in (signal.SIGINT, signal.SIGTERM):
-        signal.signal(it, signal.SIG_DFL)
+    for number in (signal.SIGINT, signal.SIGTERM):
+        signal.signal(number, signal.SIG_DFL)
     signal.pthread_sigmask(signal.SIG_UNBLOCK, SIGNALS)
     sys.stdout.reconfigure(line_buffering=True)
 
 
-def follow(child, caught, relay):
+def follow(child: int, caught: Caught, relay: Relay) -> Optional[int]:
     """Hands on what the work prints until it has ended, and returns its status, None if it is to be ended before."""
     status = None
     while status is None and caught.number is None and relay.is_heard:
@@ -137,7 +141,7 @@ def follow(child, caught, relay):
     return status
 
 
-def ended(child):
+def ended(child: int) -> Optional[int]:
     """The status of a process that has ended, below 0 by a signal; None while it runs."""
     found, status = os.waitpid(child, os.WNOHANG)
     if not found:
@@ -145,23 +149,29 @@ def ended(child):
     return os.WEXITSTATUS(status) if os.WIFEXITED(status) else -os.WTERMSIG(status)
 
 
-def end_session(leader, status):
+def end_session(leader: int, status: Optional[int]) -> None:
     """Ends what runs in a session, and waits for its leader, unless that has a status, since it has ended."""
     sessions = {leader}
-    for number in (signal.SIGTERM, signal.SIGKILL):
-        sent, end = set(), time.monotonic() + GRACE
-        there = members(sessions)
-        while there and time.monotonic() < end:
-            for it in there - sent:
-                send(it, number)
-            sent |= there
-            time.sleep(0.01)
-            there = members(sessions)
+    end_all(lambda: members(sessions))
     if status is None:
         os.waitpid(leader, 0)
 
 
-def members(sessions):
+def end_all(running: Callable[[], set[int]]) -> None:
+    """Ends the processes that run by this, each once by SIGTERM, and by SIGKILL if it still runs after some seconds."""
+    for number in (signal.SIGTERM, signal.SIGKILL):
+        sent: set[int] = set()
+        end = time.monotonic() + GRACE
+        there = running()
+        while there and time.monotonic() < end:
+            for process in there - sent:
+                send(process, number)
+            sent |= there
+            time.sleep(0.01)
+            there = running()
+
+
+def members(sessions: set[int]) -> set[int]:
     """The processes of these sessions, with what they began in other sessions, which are then added."""
     there, found = dict(processes()), set()
     while True:
@@ -169,10 +179,10 @@ def members(sessions):
         if not more:
             return found
         found |= more
-        sessions |= {there[it][1] for it in more}
+        sessions |= {there[process][1] for process in more}
 
 
-def processes():
+def processes() -> Iterator[tuple[int, tuple[int, int]]]:
     """All processes that run, each with its parent and its session."""
     for name in filter(str.isdigit, os.listdir("/proc")):
         try:
@@ -184,7 +194,7 @@ def processes():
             yield int(name), (int(parent), int(session))
 
 
-def send(process, number):
+def send(process: int, number: int) -> None:
     """Sends a signal to a process that may have ended."""
     try:
         os.kill(process, number)
@@ -192,7 +202,7 @@ def send(process, number):
         pass
 
 
-def judged(total, status, caught, relay):
+def judged(total: Optional[tuple[int, int]], status: Optional[int], caught: Caught, relay: Relay) -> tuple[Optional[tuple[int, int]], str]:
     """The total of work that ended so, or None, and what is wrong with its end, or nothing."""
     if caught.number is not None:
         return None, f"interrupted by {signal.Signals(caught.number).name}"
@@ -201,31 +211,31 @@ def judged(total, status, caught, relay):
     if total is None or status < 0:
         how = f"by {signal.Signals(-status).name}" if status < 0 else f"with status {status} and without a total"
         return None, f"ended {how}"
-    if total == [0, 0]:
+    if total == (0, 0):
         return None, "nothing was run"
     if status != 0 and total[1] == 0:
-        return [total[0], 1], f"ended with status {status}"
+        return (total[0], 1), f"ended with status {status}"
     return total, ""
 
 
-def closed(name, relay, total, why):
+def closed(name: str, relay: Relay, total: Optional[tuple[int, int]], why: str) -> int:
     """Prints the last lines, and returns the status."""
-    passed, failed = total or [0, 1]
+    passed, failed = total or (0, 1)
     said = f"{name}: {why}\n" if why else ""
     relay.say(f"{said}{passed} passed, {failed} failed\n".encode())
-    return 0 if passed and not failed else 1
+    return 0 if passed and not failed and relay.is_heard else 1
 
 
-def refuse(name, why):
+def refuse(name: str, why: str) -> NoReturn:
     """Ends a tool that cannot do its work: a line says why, and the total counts it."""
     print(f"{name}: {why}\n0 passed, 1 failed")
     sys.exit(1)
 
 
-def become(words):
+def become(words: list[str]) -> int:
     """Becomes a command, which handles signals as a command does that nobody guards."""
-    for it in (signal.SIGPIPE, signal.SIGXFSZ):
-        signal.signal(it, signal.SIG_DFL)
+    for number in (signal.SIGPIPE, signal.SIGXFSZ):
+        signal.signal(number, signal.SIG_DFL)
     try:
         os.execvp(words[0], words)
     except OSError as fault:
@@ -233,7 +243,7 @@ def become(words):
     return 1
 
 
-def main():
+def main() -> int:
     if len(sys.argv) < 3:
         print(__doc__)
         return 1

@@ -9,43 +9,35 @@ they do if the folder is its TMPDIR. Each is ended by its own id: by SIGTERM, an
 still runs after some seconds.
 """
 
+from __future__ import annotations
+
 import os
-import signal
 import sys
-import time
 
 sys.dont_write_bytecode = True
 import ending
 
 
-def end(folder, others=()):
+def end(folder: str, others: frozenset[int] = frozenset()) -> None:
     """Ends all that runs of a folder, with these other processes."""
-    for number in (signal.SIGTERM, signal.SIGKILL):
-        sent, last = set(), time.monotonic() + ending.GRACE
-        there = running(folder, others)
-        while there and time.monotonic() < last:
-            for it in there - sent:
-                ending.send(it, number)
-            sent |= there
-            time.sleep(0.01)
-            there = running(folder, others)
+    ending.end_all(lambda: running(folder, others))
 
 
-def running(folder, others):
+def running(folder: str, others: frozenset[int]) -> set[int]:
     """The processes of a folder that run, but for this one, and which of the others do.
 
     A process that begins during a look may stand among those that were passed already. So none is
     there only if a second look finds none."""
     mark = os.fsencode(folder)
     for _ in range(2):
-        there = (it for it, _ in ending.processes())
+        there = {process for process, _ in ending.processes()}
         found = {it for it in there if it in others or names(it, mark) and may_end(it)}
         if found:
             return found
     return set()
 
 
-def may_end(process):
+def may_end(process: int) -> bool:
     """Whether a process is another one than this, and one that its user may end."""
     try:
         os.kill(process, 0)
@@ -54,7 +46,7 @@ def may_end(process):
     return process != os.getpid()
 
 
-def names(process, mark):
+def names(process: int, mark: bytes) -> bool:
     """Whether a process has these bytes in its words or its environment."""
     for file in ("cmdline", "environ"):
         try:
@@ -66,11 +58,11 @@ def names(process, mark):
     return False
 
 
-def main(words):
+def main(words: list[str]) -> int:
     if not words or not os.path.isabs(words[0]) or not all(map(str.isdigit, words[1:])):
         print(__doc__.strip())
         return 1
-    end(words[0], set(map(int, words[1:])))
+    end(words[0], frozenset(map(int, words[1:])))
     return 0
 
 

@@ -1,47 +1,105 @@
-# Steps of ./check, for it to source: each runs a command whose last line is 'N passed, M failed', and keeps that line in
-# $room/NAME.total. What fails without saying so, and what checks nothing, counts as one failure.
+# Steps of ./check, for it to source. Each is a command whose last line is 'N passed, M failed'. The steps of a lane run one after
+# another in a shell of their own, and lanes run side by side. A step passes by the one line of $room/NAME.total alone: one that
+# never began, did not end, or whose total was not written, has failed, and so has each step of a lane that did not end by itself.
 
-# Prints the processor time between two outputs of `times`, of what the shell has waited for.
-between() {
-    awk -F '[ms ]+' '{ spent[FILENAME] = $1 * 60 + $2 + $3 * 60 + $4; last = FILENAME } FNR == 1 && !first { first = FILENAME }
-        END { printf "%d s of processor time\n", spent[last] - spent[first] }' "$1" "$2"
+names=()
+declare -A lane_of command_of shell_of lost failures
+
+# Declares a step, for which this is the only place: its lane, its name, and its command.
+step() {
+    local name=$2
+    names+=("$name")
+    lane_of[$name]=$1
+    printf -v "command_of[$name]" '%q ' "${@:3}"
 }
 
-# Runs a step: its name, and the command. Steps run side by side, so each line that is printed begins with the step's name.
-step() {
-    local name=$1 log=$room/$1.log total=$room/$1.total status
-    shift
-    echo "== $*"
-    times >"$log.before"
-    "$@" </dev/null 2>&1 | tee "$log" | sed -u "/^$name: /!s/^/$name: /"
-    status=${PIPESTATUS[0]}
-    if ! tail -n 1 "$log" | grep -Ex '[0-9]+ passed, [0-9]+ failed' >"$total"; then
-        echo "0 passed, 1 failed" >"$total"
-        echo "check: $name ended with status $status and without a total"
-    elif grep -qx '0 passed, 0 failed' "$total"; then
-        echo "0 passed, 1 failed" >"$total"
-        echo "check: $name checked nothing"
-    elif ((status != 0)) && grep -q ' 0 failed' "$total"; then
-        sed -i 's/ 0 failed/ 1 failed/' "$total"
-        echo "check: $name ended with status $status"
-    fi
-    times >"$log.after"
-    echo "check: $name took $(between "$log.before" "$log.after")"
+# Begins lanes. If no process can begin, the shell leaves this function, and goes on behind the call of it.
+begin() {
+    local lane
+    for lane; do
+        run_lane "$lane" &
+        shell_of[$lane]=$!
+    done
+}
+
+# Waits for the lanes that began.
+finish() {
+    local lane
+    for lane; do
+        if [[ -z ${shell_of[$lane]:-} ]]; then continue; fi
+        wait "${shell_of[$lane]}" || lost[$lane]="its lane ended with status $?"
+        unset "shell_of[$lane]"
+    done
+}
+
+# Ends the run, from any of its shells.
+stop() {
+    echo "check: $1"
+    kill "$$"
+    exit 1
+}
+
+run_lane() {
+    local name
+    for name in "${names[@]}"; do
+        if [[ ${lane_of[$name]} == "$1" ]]; then run_step "$name"; fi
+    done
+}
+
+# Makes the file of a total, which may not be there, before its step begins.
+reserve() {
+    local text="it did not end" read=
+    [[ ! -e $1 ]] && echo "$text" >"$1" && read -r read <"$1" && [[ $read == "$text" ]]
+}
+
+# Runs a step. Steps run side by side, so each line that is printed begins with the step's name.
+run_step() {
+    local name=$1 log=$room/$1.log total=$room/$1.total last ended
+    local TIMEFORMAT="check: $name took %1U s of user time and %1S s of system time"
+    reserve "$total" || stop "the total of $name cannot be written into $total"
+    echo "== ${command_of[$name]}"
+    {
+        time {
+            eval "${command_of[$name]}" </dev/null 2>&1 | tee "$log" | sed -u "/^$name: /!s/^/$name: /"
+            ended=${PIPESTATUS[*]}
+        }
+    } 2>&1
+    last=$(tail -n 1 "$log" | cut -c 1-200)
+    case "$ended $last" in
+        "0 0 0 "* | *" 0 0 "*" passed, "[1-9]*) ;;
+        *) last="'$last', and its command, tee and sed ended with $ended" ;;
+    esac
+    echo "$last" >"$total" || exit
+}
+
+is_total() {
+    [[ $1 =~ ^([0-9]{1,9})" passed, "([0-9]{1,9})" failed"$ ]] && ((10#${BASH_REMATCH[1]} + 10#${BASH_REMATCH[2]}))
+}
+
+# Adds up the totals into $passed and $failed, and finds why steps have failed. It begins no process, since that may fail.
+add_up() {
+    local name lines why
+    passed=0 failed=0
+    for name in "${names[@]}"; do
+        lines=("it did not begin")
+        if [[ -e $room/$name.total ]]; then mapfile -t lines <"$room/$name.total"; fi
+        why=${lost[${lane_of[$name]}]:-}
+        if [[ -z $why ]] && ((${#lines[@]} == 1)) && is_total "${lines[0]}"; then
+            passed=$((passed + 10#${BASH_REMATCH[1]})) failed=$((failed + 10#${BASH_REMATCH[2]}))
+            if ((10#${BASH_REMATCH[2]})); then failures[$name]=${lines[0]}; fi
+        else
+            failed=$((failed + 1))
+            failures[$name]=${why:-"it has no total: ${lines[*]}"}
+        fi
+    done
 }
 
 # Prints, for each step in which something failed, the last lines of its log but for those of what passed.
 repeat_failures() {
-    local total name
-    for total in $(grep -LE ' 0 failed$' "$room"/*.total); do
-        name=$(basename "$total" .total)
-        echo "check: $name: $(cat "$total"); its log ends with"
+    local name
+    for name in "${names[@]}"; do
+        if [[ -z ${failures[$name]:-} ]]; then continue; fi
+        echo "check: $name: ${failures[$name]}; its log ends with"
         grep -avE ': as it should be$|: refused at ' "$room/$name.log" | tail -n 10 | cut -c 1-300 | sed 's/^/    /'
     done
-}
-
-# Prints what failed and the sum of all steps' totals, and fails if anything failed or nothing passed.
-sum_up() {
-    repeat_failures
-    awk '{ passed += $1; failed += $3 }
-        END { if (!passed && !failed) failed = 1; printf "%d passed, %d failed\n", passed, failed; exit failed > 0 }' "$room"/*.total
 }

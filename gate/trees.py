@@ -1,107 +1,123 @@
 """The repository's crates, and copies of them, so that the repository itself stays as it was."""
 
+from __future__ import annotations
+
 import os
 import re
 import shutil
+from typing import Dict, Iterator, List
+
+from sources import Texts
 
 PARTS = ("src", "specs", "proofs")
+# The libraries that each crate uses.
+Uses = Dict[str, List[str]]
+
+
+class Misuse(Exception):
+    """Why no edit can be tried."""
 
 
 class Repository:
     """A repository's crates: their lines of crates.txt, the libraries that each uses, and their texts as they stood when they were first read."""
 
-    def __init__(self, root):
+    def __init__(self, root: str) -> None:
         self.root = root
         self.lines, self.uses = read_crates(root)
-        self.read = {}
+        self.read: dict[str, Texts] = {}
 
-    def texts(self, name):
-        """The texts of a crate's sources, definitions and proofs, by file."""
+    def texts(self, name: str) -> Texts:
+        """The texts of a crate's sources, definitions and proofs."""
         if name not in self.read:
             self.read[name] = read_texts(self.root, name)
         return self.read[name]
 
 
-def read_crates(root):
+def read_text(file: str) -> str:
+    with open(file, encoding="utf-8") as text:
+        return text.read()
+
+
+def read_crates(root: str) -> tuple[dict[str, str], Uses]:
     """Returns the line that crates.txt has for each crate, and the libraries that each uses, by the crate's name."""
     lines, uses = {}, {}
-    with open(f"{root}/crates.txt", encoding="utf-8") as text:
-        for line in text.read().splitlines():
-            head, colon, rest = line.partition("#")[0].partition(":")
-            if colon:
-                name = head.split()[0]
-                lines[name], uses[name] = line, rest.split()
+    for line in read_text(f"{root}/crates.txt").splitlines():
+        head, colon, rest = line.partition("#")[0].partition(":")
+        if colon:
+            name = head.split()[0]
+            lines[name], uses[name] = line, rest.split()
     return lines, uses
 
 
-def below(uses, name):
+def below(uses: Uses, name: str) -> list[str]:
     """The repository's crates that a crate stands on, lowest first."""
-    found = []
-    for it in uses[name]:
-        if it in uses:
-            found += [one for one in [*below(uses, it), it] if one not in found]
-    return found
+    names = []
+    for used in uses[name]:
+        if used in uses:
+            names += [one for one in [*below(uses, used), used] if one not in names]
+    return names
 
 
-def copy_below(root, to, names):
+def copy_below(root: str, to: str, names: list[str]) -> list[str]:
     """Copies the crates that these stand on, with the work that their checks kept, and returns their names, lowest first."""
     lines, uses = read_crates(root)
-    wanted = {it for name in names for it in below(uses, name)}
-    found = sorted(wanted, key=lambda it: len(below(uses, it)))
-    os.makedirs(f"{to}/crates")
-    with open(f"{to}/crates.txt", "w", encoding="utf-8") as text:
-        text.write("".join(f"{lines[it]}\n" for it in found))
+    wanted = {crate for name in names for crate in below(uses, name)}
+    crates = sorted(wanted, key=lambda crate: len(below(uses, crate)))
+    write(f"{to}/crates.txt", "".join(f"{lines[crate]}\n" for crate in crates))
     shutil.copyfile(f"{root}/HANDLES", f"{to}/HANDLES")
-    for it in found:
-        shutil.copytree(f"{root}/crates/{it}", f"{to}/crates/{it}", ignore=shutil.ignore_patterns("must-fail"))
-    return found
+    for crate in crates:
+        shutil.copytree(f"{root}/crates/{crate}", f"{to}/crates/{crate}", ignore=shutil.ignore_patterns("must-fail"))
+    return crates
 
 
-def copy_all(root, to):
-    """Copies the repository without its history and what was built."""
-    shutil.copytree(root, to, ignore=shutil.ignore_patterns(".git", "out", "__pycache__"))
+def copy_all(root: str, to: str) -> None:
+    """Copies the repository without its history and what was built. A fault names the first file that was not copied, and the device."""
+    try:
+        shutil.copytree(root, to, ignore=shutil.ignore_patterns(".git", "out", "__pycache__"))
+    except OSError as fault:
+        first = fault.args[0][0][2] if isinstance(fault, shutil.Error) else fault
+        raise OSError(f"{first} (the device is {device_of(to)})") from None
 
 
-def files_of(folder):
+def device_of(path: str) -> str:
+    """The device on which a path lies or would lie, with the folder at which it is mounted."""
+    folder = os.path.realpath(path)
+    while not os.path.ismount(folder):
+        folder = os.path.dirname(folder)
+    devices = {line.split()[1]: line.split()[0] for line in read_text("/proc/mounts").splitlines()}
+    return f"{devices.get(folder, 'one')} at {folder}"
+
+
+def files_of(folder: str) -> Iterator[str]:
     """Yields the files below a folder."""
     for at, _, files in os.walk(folder):
-        yield from (f"{at}/{it}" for it in files)
+        yield from (f"{at}/{file}" for file in files)
 
 
-def read_texts(root, name):
-    """Returns the texts of a crate's sources, definitions and proofs, by file."""
-    texts, folder = {}, f"{root}/crates/{name}"
-    for file in (it for part in PARTS for it in files_of(f"{folder}/{part}")):
-        with open(file, encoding="utf-8") as text:
-            texts[os.path.relpath(file, folder)] = text.read()
-    return texts
+def read_texts(root: str, name: str) -> Texts:
+    """Returns the texts of a crate's sources, definitions and proofs."""
+    folder = f"{root}/crates/{name}"
+    return {os.path.relpath(file, folder): read_text(file) for part in PARTS for file in files_of(f"{folder}/{part}")}
 
 
-def write_texts(folder, texts):
+def write_texts(folder: str, texts: Texts) -> None:
     """Lays the texts in a folder, in place of those that it has."""
     for part in PARTS:
         shutil.rmtree(f"{folder}/{part}", ignore_errors=True)
     for file, text in texts.items():
-        os.makedirs(os.path.dirname(f"{folder}/{file}"), exist_ok=True)
-        with open(f"{folder}/{file}", "w", encoding="utf-8") as it:
-            it.write(text)
+        write(f"{folder}/{file}", text)
 
 
-def link_new(folder, to, end):
-    """Gives a folder those files of another one whose names end so and that it has not, by links. Files that come or go meanwhile do no harm."""
-    for file in files_of(folder):
-        other = f"{to}{file[len(folder):]}"
-        if file.endswith(end) and not os.path.lexists(other):
-            os.makedirs(os.path.dirname(other), exist_ok=True)
-            try:
-                os.link(file, other)
-            except FileNotFoundError:
-                pass
+def write(file: str, text: str) -> None:
+    """Writes a file, in folders that are made for it."""
+    os.makedirs(os.path.dirname(file), exist_ok=True)
+    with open(file, "w", encoding="utf-8") as to:
+        to.write(text)
 
 
-def edit_names(root, name):
+def edit_names(root: str, name: str) -> list[str]:
     """Returns the names of a crate's edits, in order."""
     folder = f"{root}/crates/{name}/must-fail"
     if not os.path.isdir(folder):
         return []
-    return sorted(re.sub(r"\.edit$", "", it) for it in os.listdir(folder) if it.endswith(".edit"))
+    return sorted(re.sub(r"\.edit$", "", file) for file in os.listdir(folder) if file.endswith(".edit"))

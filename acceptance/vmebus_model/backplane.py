@@ -192,11 +192,12 @@ def faults_of(rows):
 
 
 class Backplane:
-    """A backplane without fault: its drivers by slot, the wires that each has, and its daisy chains."""
+    """A backplane without fault: its drivers by slot, the wires that each has, its jumpers, and its daisy chains."""
 
     def __init__(self, rows):
         self.arbiter = rows.arbiter
         self.boards = {it.slot: it for it in sorted(rows.boards, key=lambda it: it.slot)}
+        self.jumpers = {it.slot: it.chains for it in rows.jumpers}
         self.requesters = {slot: it.requester for slot, it in self.boards.items() if it.requester}
         self.interrupters = {slot: it.interrupter for slot, it in self.boards.items() if it.interrupter}
         self.drivers = [CONTROLLER, *self.boards]

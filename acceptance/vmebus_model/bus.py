@@ -23,6 +23,15 @@ class Made(NamedTuple):
     last_grant: Tuple[int, Optional[int]]
 
 
+def picked(arbiter, requests, last):
+    """The level that a policy picks of some that are requested, None if it picks none; `last` is the level last granted."""
+    if arbiter == "sgl":
+        return 3 if 3 in requests else None
+    if arbiter == "pri":
+        return max(requests, default=None)
+    return min(requests, key=lambda level: (last + 3 - level) % 4, default=None)
+
+
 class Bus:
     """A backplane, the version of the rules, and what has happened on it since power-up."""
 
@@ -149,12 +158,7 @@ class Bus:
 
     def pick(self):
         """The level that the arbiter's policy picks, None if it picks none."""
-        last = self.level_last_granted()
-        if self.plan.arbiter == "sgl":
-            return 3 if 3 in self.requests() else None
-        if self.plan.arbiter == "pri":
-            return max(self.requests(), default=None)
-        return min(self.requests(), key=lambda level: (last + 3 - level) % 4, default=None)
+        return picked(self.plan.arbiter, self.requests(), self.level_last_granted())
 
     def is_asked_above(self):
         """Whether some request above the level last granted is low."""

@@ -13,6 +13,13 @@ EXAMPLES = ACCEPTANCE.parent / "examples"
 REPLAY = ["replay", "scenario.toml", "trace.vme"]
 
 
+def repeated(count, text):
+    """A text so many times; in it `#N` is the number of its repetition, from 0."""
+    if "#N" not in text:
+        return count * text.encode()
+    return b"".join(text.replace("#N", str(number)).encode() for number in range(count))
+
+
 @dataclass
 class Wanted:
     """What a run has to give; None is not compared."""
@@ -53,7 +60,7 @@ class Folder:
         """Copies the files, and builds those that are too large to keep."""
         shutil.copytree(self.path, folder, dirs_exist_ok=True)
         for name, parts in json.loads(self.text("built.json", b"{}")).items():
-            Path(folder, name).write_bytes(b"".join(count * text.encode() for count, text in parts))
+            Path(folder, name).write_bytes(b"".join(repeated(count, text) for count, text in parts))
 
     def words(self, name="args"):
         """The words of the case, one a line, or each ended by a zero byte."""

@@ -9,11 +9,20 @@ from .faults import Fault
 from .program import Console, main
 
 
-class Kept(Console):
-    """A console in memory: a folder, the bytes of standard input, and how many bytes standard output takes."""
+# The status of a program that ends by the signal SIGXFSZ, as a shell gives it.
+BY_SIGNAL = 153
 
-    def __init__(self, folder, given=b"", fails=False, room=None):
-        self.folder, self.given, self.fails, self.room = folder, given, fails, room
+
+class EndedBySignal(Exception):
+    """The system ends a program that writes past a limit of the size of files."""
+
+
+class Kept(Console):
+    """A console in memory: a folder, the bytes of standard input, and how many bytes standard output takes, past which a write fails
+    or a signal ends the program."""
+
+    def __init__(self, folder, given=b"", fails=False, room=None, is_deadly=False):
+        self.folder, self.given, self.fails, self.room, self.is_deadly = folder, given, fails, room, is_deadly
         self.output, self.told = b"", b""
 
     def open(self, name):
@@ -29,6 +38,8 @@ class Kept(Console):
         self.output += text.encode()
         if self.room is not None and len(self.output) > self.room:
             self.output = self.output[: self.room]
+            if self.is_deadly:
+                raise EndedBySignal
             raise Fault("X8 the output cannot be written")
 
     def tell(self, line):
@@ -42,7 +53,7 @@ def console_of(run, folder):
     names = ["scenario.toml", "trace.vme"] if run.is_joined else ["stdin"] if Path(folder, "stdin").is_file() else []
     given = b"" if input_ == [b"folder"] else b"".join(Path(folder, it).read_bytes() for it in names)
     room = None if not output else int(output[1]) if output[0] == b"at-most" else 0
-    return Kept(folder, given, input_ in ([b"folder"], [b"breaks"]), room)
+    return Kept(folder, given, input_ in ([b"folder"], [b"breaks"]), room, output[2:] == [b"by-signal"])
 
 
 def done(run):
@@ -50,7 +61,10 @@ def done(run):
     with tempfile.TemporaryDirectory(prefix="model-") as folder:
         run.case.lay_out(folder)
         console = console_of(run, folder)
-        status = main(run.words, console)
+        try:
+            status = main(run.words, console)
+        except EndedBySignal:
+            status = BY_SIGNAL
         Path(folder, "written.vme").write_bytes(console.output)
         return status, console, fault_in_trace(run.case, folder, status, console.output)
 

@@ -54,11 +54,19 @@ def why_no_goal(name, version):
     return why_unknown(name)
 
 
+def is_levelled(name, text):
+    """Whether a name is a text with a level in the place of N, with the mark of `explain` or without it."""
+    return re.fullmatch(re.escape(text).replace("N", "[N0-9]") + r"( \(profile\))?", name) is not None
+
+
 def why_unknown(name):
     """What is wrong with a name that is no goal of any version."""
     first = name.partition(" ")[0]
-    if any(re.fullmatch(re.escape(it).replace("N", "[N0-9]") + r"( \(profile\))?", name) for it in goals(1)):
+    if any(is_levelled(name, it) for it in goals(1)):
         return "N stands for a level, as in 'IRQN* is low'"
+    rules = [it.partition(" ")[0] for it in CONDITIONS if is_levelled(name, it.partition(" ")[2])]
+    if rules:
+        return f"a condition needs its rule before it: {', '.join(rules)}"
     if first in GUARDED:
         return f"rule {first} has no such condition"
     if name != first and first in ("S1", "S2", "S3", "S4"):

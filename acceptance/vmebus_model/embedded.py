@@ -25,27 +25,37 @@ NAMES = {it: name_of(it) for it in DRIVERS}
 LINES = {"BBSY*": "bbsy", "BCLR*": "bclr", "AS*": "as", "DS0*": "ds", "DTACK*": "dtack",
          "BERR*": "berr"}
 
+# The most numbers or bytes that a call writes, as docs/EMBEDDING.md has them.
+MOST = "most fault 1024 verdict 37 failing 5 why 58 line 12 open 36 build 4 masks 22"
+
+# The numbers of faults, as docs/EMBEDDING.md has them.
+FAULTS = ("faults P1 1 P2 2 P3 3 P4 4 P5 5 P6 6 P7 7 P8 8 P9 9 Q1 11 Q2 12 Q3 13 Q4 14 Q6 16 F2 20 X1 31 "
+          "SIZE 32")
+
+# How a bus and draws of another size are answered.
+SIZES = ("SIZE", "SIZE")
+
 # How no edge is answered: on words that are no bus, by a line that spells none, by a driver that
-# there is not, and by a draw on no wires.
-NO_EDGE = ("no bus", "no edge", "E1", "none open")
+# there is not, and by a draw on no wires. In front stands what the library writes of the answer.
+NO_EDGE = (": no bus", ": no edge", "E1: E1", "none open")
 
 
 def seen(scenario, trace):
     """What is printed of a scenario and a trace, in bytes: a fault, or each answer and the bus."""
     edges, fault = edges_of(trace), None
     if edges is None:
-        fault = "X1"
+        fault = "X1 the version of the rules is neither 1 nor 2"
     elif len(scenario) > MOST_BYTES:
-        fault = "F2"
+        fault = "F2 the scenario is too long"
     else:
         try:
             plan = backplane.read(scenario)
         except Fault as found:
-            fault = str(found).partition(" ")[0]
+            fault = str(found)
     if fault:
-        return [fault]
+        return [fault.partition(" ")[0], fault]
     bus = Bus(plan, edges.version)
-    first = [version_line(), *NO_EDGE, *bus_lines(bus), *drivers_lines(bus)]
+    first = [version_line(), MOST, FAULTS, *SIZES, *NO_EDGE, *bus_lines(bus), *drivers_lines(bus)]
     return [*first, *step_lines(bus, edges), *drivers_lines(bus)]
 
 
@@ -71,11 +81,12 @@ def step_lines(bus, edges):
         for number, edge in enumerate(edges, 1):
             yield f"{number} {edge}"
             yield from failing_lines(bus, edge)
-            yield step(bus, edge, number)
+            verdict = step(bus, edge, number)
+            yield f"{verdict}: {verdict}"
             yield from bus_lines(bus)
             yield from driver_lines(bus, edge.driver)
     except Fault:
-        yield f"{number + 1} no edge"
+        yield f"{number + 1} : no edge"
 
 
 def failing_lines(bus, edge):

@@ -39,7 +39,9 @@ def seen_in(lines):
     moment, edges = None, 0
     for number, line in enumerate(lines, 2):
         edge, named = SPELLED.get(line), moment_of(line)
-        if edge and moment is not None:
+        if edge and moment is None:
+            raise Fault(f"X17 line {number} stands before the first moment")
+        if edge:
             edges += 1
             if edges > MOST_EDGES:
                 raise Fault(f"F6 more than {MOST_EDGES} edges")

@@ -156,9 +156,12 @@ def orders_by_kind(question):
 
 
 def answer_to(question):
-    """The answer, by the definitions if few edges let them be tried."""
-    is_small = len(question.seen) <= MOST_TRIED
-    return orders_by_trying(question) if is_small else orders_by_kind(question)
+    """The answer, by the definitions if few edges let them be tried. No list of all places is less
+    than the one in which they are listed, and no moment lets it be no order."""
+    if len(question.seen) <= MOST_TRIED:
+        return orders_by_trying(question)
+    listed = tuple(range(len(question.seen)))
+    return Answer(listed, (), False) if question.bus_after(listed) else orders_by_kind(question)
 
 
 def slack_of(plan, given):
@@ -185,12 +188,18 @@ def order(plan, read, options, console):
     answer = answer_to(question)
     written = [question.seen[place] for place in answer.places + answer.refused]
     if "--where" in options:
-        lines = (f"{number} {where(it)}\n" for number, it in enumerate(written, 1))
-        console.write("".join(lines))
+        console.write("".join(places_of(plan, question.version, written)))
     else:
         console.write(text_of(question.version, [it.edge for it in written]))
     return 2 if answer.refused else 0
 
 
-def where(seen):
-    return f"{seen.edge} line {seen.line} moment {seen.moment}"
+def places_of(plan, version, written):
+    """A line for each edge: its number, its place, and the verdict if it is refused."""
+    bus = Bus(plan, version)
+    for number, it in enumerate(written, 1):
+        refused = refusal(bus, it.edge)
+        if not refused:
+            bus.accept(it.edge, number)
+        verdict = f" {refused}" if refused else ""
+        yield f"{number} {it.edge} line {it.line} moment {it.moment}{verdict}\n"

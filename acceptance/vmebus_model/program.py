@@ -4,9 +4,9 @@ import os
 import re
 from pathlib import Path
 
-from . import backplane
+from . import backplane, reach
 from .cycles import cycles
-from .draw import drive_drawn, drive_seeds
+from .draw import drive_drawn, drive_seeds, goal_of
 from .drive import drive, run
 from .explain import explain
 from .faults import Fault, WrongWords, escaped
@@ -18,7 +18,7 @@ from .show import show
 from .shrink import shrink
 from .sources import rule
 from .state import state
-from .summary import summary
+from .summary import summary, summary_of_all
 from .traces import Trace
 from .words import job_of
 
@@ -135,16 +135,15 @@ def done(job, console):
         return rule(job.files, console)
     scenario_name, *trace_names = job.files
     scenario = scenario_of(console.open(scenario_name), scenario_name)
-    if job.command == "check" and len(trace_names) > 1:
-        return check_all(backplane.read(scenario), trace_names, console)
+    if job.command in ("check", "summary") and len(trace_names) > 1:
+        return (check_all if job.command == "check" else summary_of_all)(backplane.read(scenario), trace_names, console)
     first = console.open(trace_names[0]) if trace_names else None
     other = console.open(trace_names[1]) if job.command == "same" else None
     options = job.options
     plan = backplane.read(scenario)
+    reach.refuse(plan, goal_of(options))
     if "--progress" in options:
         console.tell(f"trying seed {options['--seeds'][0]}")
-    if job.command == "summary":
-        return summary(plan, traces_of(trace_names, first, console), console)
     if job.command == "run":
         return run(plan, options, console)
     if job.command == "drive":
@@ -156,17 +155,11 @@ def done(job, console):
     trace = Trace(first)
     if job.command == "replay":
         return replay(plan, trace, console, "--full" in options)
-    if job.command in ("check", "cycles"):
-        return (check if job.command == "check" else cycles)(plan, trace, console)
+    alone = {"check": check, "cycles": cycles, "summary": summary}
+    if job.command in alone:
+        return alone[job.command](plan, trace, console)
     with_options = {"explain": explain, "shrink": shrink, "state": state, "show": show, "races": races}
     return with_options[job.command](plan, trace, options, console)
-
-
-def traces_of(names, first, console):
-    """The names of traces with their texts, each opened when the one before it is at its end."""
-    yield names[0], first, len(names) == 1
-    for name in names[1:]:
-        yield name, console.open(name), False
 
 
 def main(words, console):

@@ -55,14 +55,17 @@ def difference(plan, first, second):
     bus, left = Bus(plan, first.version), deque(enumerate(first.edges, 1))
     for number, edge in enumerate(second.edges, 1):
         place = next((place for place, (_, it) in enumerate(left) if it == edge), None)
-        if place is None:
-            return f"differ {number} {edge} missing"
-        stop = what_stops_at(bus, left, place)
+        stop = "missing" if place is None else what_stops_at(bus, left, place)
         if stop:
-            return f"differ {number} {edge} {stop}"
+            return f"differ {number} {edge} {stop}\n    {first_of(left, edge.driver)}"
         del left[place]
         bus.accept(edge, number)
     return f"differ {left[0][0]} {left[0][1]} left" if left else None
+
+
+def first_of(left, driver):
+    """The first edge of a driver of those that are left, with its number; `none` if none is left."""
+    return next((f"{number} {it}" for number, it in left if it.driver == driver), "none")
 
 
 def what_stops_at(bus, left, place):

@@ -40,11 +40,15 @@ class Answer:
         self.plan, self.version, self.edge = plan, version, edge
 
     def after(self, edges):
-        """Of a refused edge the verdict and the conditions that fail, otherwise the verdict and the events."""
+        """Of a refused edge the verdict, the conditions that fail and what the arbiter picks if one of them speaks of that;
+        otherwise the verdict and the events."""
         bus = Bus(self.plan, self.version)
         legal_part(bus, edges)
         verdict = verdict_of(bus, self.edge)
-        return verdict, fails(bus, self.edge) if refusal(bus, self.edge) else events_of(bus, self.edge)
+        if not refusal(bus, self.edge):
+            return verdict, events_of(bus, self.edge)
+        failing = fails(bus, self.edge)
+        return verdict, failing, bus.pick() if any("the arbiter picks" in it for it in failing) else None
 
     def keeping(self, edges):
         """A function of other edges: their legal part if the answer after it is the one after these, otherwise None."""

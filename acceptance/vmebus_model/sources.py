@@ -161,7 +161,7 @@ TABLE = {
         "iack and every iackout are high": standard(4, why="it stands for a minimum time"),
     }),
     "S2": Rule("c berr-", "The bus timer waits until nobody is left to answer.", {
-        "nobody can answer": standard(2, why="it stands for a minimum time"),
+        "nobody can answer": profile("the standard's bus timer counts time alone"),
     }),
     "S3": Rule("c bgN+", "Version 2: a grant times out only when it has passed every board.", {
         "the grant has passed the last board": profile("it stands for a time of version 2"),

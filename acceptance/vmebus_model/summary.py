@@ -4,7 +4,7 @@ from collections import Counter, defaultdict
 
 from .bus import Bus
 from .events import EVENTS, events_of
-from .faults import Fault, of_file
+from .faults import Fault, escaped
 from .rules import GUARDS, name_of_rule
 from .traces import Trace
 from .verdicts import refusal, step
@@ -45,15 +45,16 @@ class Sums:
     """The counts of all traces, and the last bus."""
 
     def __init__(self, plan):
-        self.plan, self.bus, self.edges = plan, None, 0
+        self.plan, self.bus, self.traces, self.edges = plan, None, 0, 0
         self.accepted, self.refused, self.met = Counter(), Counter(), Counter()
         self.first = {}
         self.boards = defaultdict(Board)
 
-    def add(self, trace):
-        """Judges a trace to its end."""
-        self.bus = Bus(self.plan, trace.version)
-        for number, edge in enumerate(trace, 1):
+    def add(self, version, edges):
+        """Judges the edges of a trace."""
+        self.traces += 1
+        self.bus = Bus(self.plan, version)
+        for number, edge in enumerate(edges, 1):
             self.edges += 1
             refused = refusal(self.bus, edge)
             if refused:
@@ -91,6 +92,10 @@ class Sums:
             if self.boards[slot].counts["dtack"]:
                 yield self.boards[slot].answered(slot)
 
+    def write(self, is_alone, console):
+        """Writes the lines."""
+        console.write("".join(f"{line}\n" for line in self.lines(is_alone)))
+
     def going_on(self, slot):
         """A hold or a wait that goes on at the end."""
         low = self.bus.low
@@ -99,13 +104,40 @@ class Sums:
         return f" asks since {self.bus.moved[slot, 'br']}" if slot in low["br"] else ""
 
 
-def summary(plan, traces, console):
-    """Adds up all traces, given by their names and readers; a fault of one of several names it."""
-    sums, count = Sums(plan), 0
-    for count, (name, read, is_alone) in enumerate(traces, 1):
-        try:
-            sums.add(Trace(read))
-        except Fault as fault:
-            raise fault if is_alone else of_file(name, fault) from None
-    console.write("".join(f"{line}\n" for line in sums.lines(count == 1)))
+def summary(plan, trace, console):
+    """Counts what a trace exercised."""
+    sums = Sums(plan)
+    sums.add(trace.version, trace)
+    sums.write(True, console)
     return 2 if sums.refused else 0
+
+
+def summary_of_all(plan, names, console):
+    """Adds up what several traces exercised, but for those with a fault."""
+    sums = Sums(plan)
+    statuses = [add_one(sums, it, console) for it in names]
+    if sums.traces:
+        console.write(f"traces {sums.traces}\n")
+        sums.write(False, console)
+    return 1 if 1 in statuses else max(statuses)
+
+
+def add_one(sums, name, console):
+    """Adds one of several traces if it has no fault, and says whether an edge of it was refused."""
+    try:
+        read = console.open(name)
+    except Fault as fault:
+        console.tell(f"vmebus: {fault}")
+        return 1
+    try:
+        trace = Trace(read)
+        edges = list(trace)
+    except Fault as fault:
+        console.tell(f"vmebus: {escaped(name)}: {fault}")
+        return 1
+    before = sum(sums.refused.values())
+    sums.add(trace.version, edges)
+    if sum(sums.refused.values()) == before:
+        return 0
+    console.write(f"{escaped(name)}: illegal\n")
+    return 2

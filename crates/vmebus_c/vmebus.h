@@ -17,8 +17,8 @@
 extern "C" {
 #endif
 
-/* The version of this header, 1.0.0, a byte for each number. vmebus_build returns that of the library. */
-#define VMEBUS_VERSION 0x10000u
+/* The version of this header, 2.0.0, a byte for each number. vmebus_build returns that of the library. */
+#define VMEBUS_VERSION 0x20000u
 
 #define VMEBUS_WORDS 165
 
@@ -35,6 +35,19 @@ struct vmebus {
 struct vmebus_draws {
     uint32_t words[VMEBUS_DRAWS_WORDS];
 };
+
+/* The most numbers or bytes that a call writes into a buffer. A text has a zero byte behind it if the buffer has one byte
+ * more. */
+#define VMEBUS_MOST_FAULT 1024  /* vmebus_fault_text */
+#define VMEBUS_MOST_VERDICT 37  /* vmebus_verdict */
+#define VMEBUS_MOST_FAILING 5   /* vmebus_failing */
+#define VMEBUS_MOST_WHY 58      /* vmebus_why */
+#define VMEBUS_MOST_LINE 12     /* vmebus_spell */
+#define VMEBUS_MOST_OPEN 36     /* vmebus_open_edges */
+#define VMEBUS_MOST_BUILD 4     /* vmebus_build */
+
+/* How many masks vmebus_draw takes: of the controller and of each slot. */
+#define VMEBUS_MASKS 22
 
 /* The driver that is the controller, in slot 1. Any other is the board of a slot, 1 to 21. */
 #define VMEBUS_CONTROLLER 0u
@@ -74,9 +87,13 @@ enum vmebus_wire {
 
 /* Each other answer is a refusal: VMEBUS_ERROR is 1 to 4 for E1 to E4, and VMEBUS_RULE the number of the rule, of G1 to G26
  * at E3 and of S1 to S4 at E4. */
-#define VMEBUS_IS_REFUSED(answer) ((answer) != VMEBUS_ACCEPTED && (answer) < VMEBUS_NO_EDGE)
+#define VMEBUS_IS_REFUSED(answer) vmebus_is_refused(answer)
 #define VMEBUS_ERROR(answer) ((answer) >> 8)
 #define VMEBUS_RULE(answer) ((answer) & 0xffu)
+
+static inline int vmebus_is_refused(uint32_t answer) {
+    return answer != VMEBUS_ACCEPTED && answer < VMEBUS_NO_EDGE;
+}
 
 /* The conditions of the rules, as vmebus_failing writes them. vmebus_why writes their texts, and docs/COMMANDS.md lists
  * them. */
@@ -155,12 +172,42 @@ enum vmebus_condition {
 #define VMEBUS_PIN_IRQ(level) (1u << (11 + (level))) /* IRQ1* to IRQ7* */
 #define VMEBUS_SHOWN(pins) ((pins) >> 24)           /* what the address lines show, as a value above, or 0 */
 
-/* Opens a bus on the backplane of a scenario, as it is at power-up, under the rules of version 1 or 2.
+/* Why no bus is opened: P1 to P9, Q1 to Q4, Q6 and F2 of the scenario, as docs/FAULTS.md lists them; X1 if there is no such
+ * version of the rules; and a caller that was compiled with another size of the bus or of the draws. */
+#define VMEBUS_FAULT_P1 1u
+#define VMEBUS_FAULT_P2 2u
+#define VMEBUS_FAULT_P3 3u
+#define VMEBUS_FAULT_P4 4u
+#define VMEBUS_FAULT_P5 5u
+#define VMEBUS_FAULT_P6 6u
+#define VMEBUS_FAULT_P7 7u
+#define VMEBUS_FAULT_P8 8u
+#define VMEBUS_FAULT_P9 9u
+#define VMEBUS_FAULT_Q1 11u
+#define VMEBUS_FAULT_Q2 12u
+#define VMEBUS_FAULT_Q3 13u
+#define VMEBUS_FAULT_Q4 14u
+#define VMEBUS_FAULT_Q6 16u
+#define VMEBUS_FAULT_F2 20u
+#define VMEBUS_FAULT_X1 31u
+#define VMEBUS_FAULT_SIZE 32u
+
+/* Opens a bus on the backplane of a scenario, as it is at power-up, under the rules of version 1 or 2. Call vmebus_open,
+ * which passes the size of the bus.
  *
- * Returns 0, or the number of the first fault, and then the bus is as it was: 31 (X1) if there is no such version; 20 (F2)
- * if the scenario has more than 1048576 bytes; 1 to 9 for P1 to P9, and 11 to 14 and 16 for Q1 to Q4 and Q6. If there is
- * no memory, it may be 9 (P9) or 16 (Q6) in place of any fault of the scenario. */
-uint32_t vmebus_open(struct vmebus *bus, uint32_t version, const uint8_t *scenario, size_t bytes);
+ * Returns 0, or the first of the faults above, and then the bus is as it was. If there is no memory, it may be P9 or Q6 in
+ * place of any fault of the scenario. If the size is another than the library's, nothing is read or written. */
+uint32_t vmebus_open_sized(struct vmebus *bus, size_t size, uint32_t version, const char *scenario, size_t bytes);
+
+static inline uint32_t vmebus_open(struct vmebus *bus, uint32_t version, const char *scenario, size_t bytes) {
+    return vmebus_open_sized(bus, sizeof *bus, version, scenario, bytes);
+}
+
+/* Writes the line that the program prints of the first fault of a version and a scenario, such as
+ * `Q3 missing key board.1.requester.release`: at most VMEBUS_MOST_FAULT bytes. Returns how many it has, however large the
+ * buffer is, and 0 if there is no fault. The line is written as a whole or not at all, with a zero byte behind it if there is
+ * room for that, too. */
+uint32_t vmebus_fault_text(uint32_t version, const char *scenario, size_t bytes, char *text, size_t room);
 
 /* Judges an edge, and makes it on the bus if it is accepted; fall is 1, or 0 for a rise.
  *
@@ -171,7 +218,7 @@ uint32_t vmebus_step(struct vmebus *bus, uint32_t driver, uint32_t wire, uint32_
                      uint32_t *delivered);
 
 /* The same for a line of a trace, without its line feed. Returns VMEBUS_NO_EDGE if the line spells no edge. */
-uint32_t vmebus_line(struct vmebus *bus, const uint8_t *line, size_t bytes, uint32_t *delivered);
+uint32_t vmebus_line(struct vmebus *bus, const char *line, size_t bytes, uint32_t *delivered);
 
 /* The slot of the board that holds BBSY* low, or 0. */
 uint32_t vmebus_holder(const struct vmebus *bus);
@@ -182,10 +229,16 @@ uint32_t vmebus_grant_at(const struct vmebus *bus);
 /* What a driver reads on its pins. A driver that the backplane does not have reads what the controller does. */
 uint32_t vmebus_pins(const struct vmebus *bus, uint32_t driver);
 
-/* The functions below look at an edge or a bus, and change no bus. Each list is written into a buffer of the caller's, which
- * holds room numbers or bytes. The answer is the length of the list, however large the buffer is. Of a list of numbers, as
- * many are written as there is room for. A text is written as a whole or not at all. No byte is written after the list. If
- * the words are no bus, the answer is 0, and nothing is written. */
+/* The functions below look at an answer, an edge or a bus, and change no bus. Each list is written into a buffer of the
+ * caller's, which holds room numbers or bytes. The answer is the length of the list, however large the buffer is. Of a list
+ * of numbers, as many are written as there is room for, and nothing behind them. A text is written as a whole or not at all,
+ * with a zero byte behind it if there is room for that, too. If the words are no bus, the answer is 0, and nothing is
+ * written. */
+
+/* The verdict on an edge, as `vmebus replay` prints it, by what a step returned and delivered: `ok`, `E3 G16`,
+ * `ok irq 4 to 1 from 2 status 65`. It has at most VMEBUS_MOST_VERDICT bytes, and none for a number that is no answer to an
+ * edge. */
+uint32_t vmebus_verdict(uint32_t answer, uint32_t delivered, char *text, size_t room);
 
 /* The conditions that an edge fails, of the first of E1 to E4 that applies, in the order of its rule: at most 5, and 0 if it
  * would be accepted. Numbers that name no edge fail VMEBUS_CONDITION_HAS_DRIVER. */
@@ -193,13 +246,12 @@ uint32_t vmebus_failing(const struct vmebus *bus, uint32_t driver, uint32_t wire
                         uint32_t *conditions, size_t room);
 
 /* The text of the condition at a place of that list, from 0, as `vmebus explain` prints it: at most 58 bytes, and 0 if there
- * is no condition at that place, or if the numbers name no edge. No zero byte ends it. */
+ * is no condition at that place, or if the numbers name no edge. */
 uint32_t vmebus_why(const struct vmebus *bus, uint32_t driver, uint32_t wire, uint32_t fall, uint32_t value,
-                    uint32_t place, uint8_t *text, size_t room);
+                    uint32_t place, char *text, size_t room);
 
-/* The line of an edge, as in a trace, without its line feed: at most 12 bytes, and 0 if the numbers name no edge. No zero
- * byte ends it. */
-uint32_t vmebus_spell(uint32_t driver, uint32_t wire, uint32_t fall, uint32_t value, uint8_t *line, size_t room);
+/* The line of an edge, as in a trace, without its line feed: at most 12 bytes, and 0 if the numbers name no edge. */
+uint32_t vmebus_spell(uint32_t driver, uint32_t wire, uint32_t fall, uint32_t value, char *line, size_t room);
 
 /* All edges that a driver could make now, in the order in which `vmebus state` prints them: at most 36. */
 uint32_t vmebus_open_edges(const struct vmebus *bus, uint32_t driver, uint32_t *edges, size_t room);
@@ -210,21 +262,27 @@ uint32_t vmebus_low(const struct vmebus *bus, uint32_t driver, uint32_t wire);
 /* 1 if the backplane has the driver with such a wire, and otherwise 0. */
 uint32_t vmebus_has(const struct vmebus *bus, uint32_t driver, uint32_t wire);
 
-/* Three numbers of the library: its version, and how many words a bus and draws have in it. They should be VMEBUS_VERSION,
- * VMEBUS_WORDS and VMEBUS_DRAWS_WORDS. */
+/* Four numbers of the library: its version, how many words a bus and draws have in it, and 1 if it is proved, or 0. The first
+ * three should be VMEBUS_VERSION, VMEBUS_WORDS and VMEBUS_DRAWS_WORDS. */
 uint32_t vmebus_build(uint32_t *numbers, size_t room);
 
 /* Makes the draws of a seed. `vmebus drive --seed` draws by the same numbers and weights. Each draw moves the draws, and no
- * draw moves the bus; each thread needs draws of its own. */
-void vmebus_draws(struct vmebus_draws *draws, uint64_t seed);
+ * draw moves the bus; each thread needs draws of its own. Call vmebus_seed, which passes the size of the draws.
+ *
+ * Returns 0, or VMEBUS_FAULT_SIZE if the size is another than the library's, and then nothing is written. */
+uint32_t vmebus_seed_sized(struct vmebus_draws *draws, size_t size, uint64_t seed);
+
+static inline uint32_t vmebus_seed(struct vmebus_draws *draws, uint64_t seed) {
+    return vmebus_seed_sized(draws, sizeof *draws, seed);
+}
 
 /* Draws the next edge among all open edges of the wires that the library plays, writes it in one word, and counts it. The bus
  * is not stepped: make the edge in the design, and step it like any other.
  *
  * The masks are 22, of the controller and of each slot. The bit of a wire's number is set if the library plays it; a mask
- * that is missing plays none. Answers 0; VMEBUS_NONE_OPEN if none of these wires has an open edge, with 0 in *edge; and
- * VMEBUS_NO_BUS for words that are no bus, or that are the draws of no seed, such as zeros. Draws move with each answer but
- * the last. */
+ * that is missing plays none. Answers 0; VMEBUS_NONE_OPEN if none of these wires has an open edge; and VMEBUS_NO_BUS for words
+ * that are no bus, or that are the draws of no seed, such as zeros. *edge is 0 after each answer but 0. Draws move with each
+ * answer but the last. */
 uint32_t vmebus_draw(const struct vmebus *bus, struct vmebus_draws *draws, const uint32_t *wires, size_t masks,
                      uint32_t *edge);
 

@@ -10,6 +10,10 @@ At the end of the test, close the file.
 
 from cocotb.triggers import RisingEdge
 
+# The order of a board's edges within a clock: causes before effects.
+ORDER = """bgout- bbsy- addr- as- ds- dtack- iackout- br- irq-
+    br+ ds+ addr+ as+ bbsy+ bgout+ irq+ iackout+ dtack+""".split()
+
 
 async def monitor(clk, driver, wires, moments, shows=None):
     """`driver` is a slot or c, `wires` has a handle for the name of each wire that it has, and
@@ -19,10 +23,10 @@ async def monitor(clk, driver, wires, moments, shows=None):
         await RisingEdge(clk)
         # X and Z count as high.
         low = {name: str(wire.value) == "0" for name, wire in wires.items()}
-        moved = [name for name in wires if low[name] != was[name]]
+        moved = [f"{name}{'-' if low[name] else '+'}" for name in wires if low[name] != was[name]]
         if moved:
             print(f"@{clock}", file=moments)
-        for name in moved:
-            value = f" {shows()}" if name == "addr" and low[name] else ""
-            print(f"{driver} {name}{'-' if low[name] else '+'}{value}", file=moments)
+        for edge in sorted(moved, key=lambda it: 0 if driver == "c" else ORDER.index(it)):
+            value = f" {shows()}" if edge == "addr-" else ""
+            print(f"{driver} {edge}{value}", file=moments)
         was, clock = low, clock + 1

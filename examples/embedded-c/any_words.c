@@ -4,8 +4,8 @@
  *
  * The numbers are drawn from a fixed seed. The records are those of a bus on which the trace is
  * made, with few or all of their words drawn. All that a call is handed ends right before a page that
- * nothing may touch, or begins right behind one. In each round each function but vmebus_open is called
- * at least once. It ends with status 1 if a refusal changed a bus or delivered something, if words that
+ * nothing may touch, or begins right behind one. In each round each function is called at least once, but
+ * those that read a scenario or take a size, which are called now and then. It ends with status 1 if a refusal changed a bus or delivered something, if words that
  * are no bus show more than 0, or if an answer is none that the header names. */
 #define _DEFAULT_SOURCE
 #include <stdbool.h>
@@ -18,7 +18,10 @@
 #include "vmebus.h"
 
 /* What is handed over, each in pages of its own. */
-enum part { BUS, DRAWS, NUMBERS, TEXT, MASKS, DELIVERED, PARTS };
+enum part { BUS, DRAWS, NUMBERS, TEXT, MASKS, DELIVERED, SCENARIO, PARTS };
+
+/* What no text has. */
+enum { FILL = 1 };
 
 /* Pages between two that nothing may touch. */
 struct pages {
@@ -64,7 +67,7 @@ static void *at_edge(enum part part, size_t bytes) {
 }
 
 /* Reads the first bytes of a file. */
-static size_t read_some(const char *path, uint8_t *text, size_t room) {
+static size_t read_some(const char *path, char *text, size_t room) {
     FILE *file = fopen(path, "rb");
     if (!file) {
         perror(path);
@@ -88,9 +91,9 @@ static void draw_bus(struct vmebus *bus, const struct vmebus *from) {
 }
 
 /* Makes the next edge of the trace, or begins it again. */
-static void go_on(struct vmebus *bus, const struct vmebus *opened, const uint8_t *trace, size_t bytes, size_t *at) {
+static void go_on(struct vmebus *bus, const struct vmebus *opened, const char *trace, size_t bytes, size_t *at) {
     uint32_t delivered;
-    const uint8_t *feed = memchr(trace + *at, '\n', bytes - *at);
+    const char *feed = memchr(trace + *at, '\n', bytes - *at);
     if (feed) {
         vmebus_line(bus, trace + *at, (size_t)(feed - trace) - *at, &delivered);
         *at = (size_t)(feed - trace) + 1;
@@ -144,32 +147,47 @@ static uint32_t ask_lists(const struct vmebus *bus, unsigned long round) {
 static void ask_build(unsigned long round) {
     static const uint32_t wanted[] = {VMEBUS_VERSION, VMEBUS_WORDS, VMEBUS_DRAWS_WORDS};
     uint32_t fill = draw() | 0x80000000u;
-    size_t words = draw() % 6;
+    size_t words = draw() % 7;
     uint32_t *room = filled(words, fill);
-    if (vmebus_build(room, words) != 3) fail("a build of other than three numbers", round);
+    if (vmebus_build(room, words) != VMEBUS_MOST_BUILD) fail("a build of another number of numbers", round);
     for (size_t at = 0; at < words && at < 3; at++)
         if (room[at] != wanted[at]) fail("another build than the header's", round);
-    if (!is_within(room, words, 3, fill)) fail("a build beyond its numbers", round);
+    if (words > 3 && room[3] > 1) fail("a build that is neither proved nor not", round);
+    if (!is_within(room, words, VMEBUS_MOST_BUILD, fill)) fail("a build beyond its numbers", round);
 }
 
-/* Whether a room of bytes holds a text as a whole, or nothing if there is less room. */
-static bool is_text(const uint8_t *room, size_t bytes, uint32_t length) {
-    for (size_t at = 0; at < bytes; at++)
-        if ((room[at] != 0) != (length <= bytes && at < length)) return false;
+/* A room of so many bytes, none of which is in a text. */
+static char *filled_text(size_t bytes) {
+    char *room = at_edge(TEXT, bytes);
+    memset(room, FILL, bytes);
+    return room;
+}
+
+/* Whether a room of bytes holds a text as a whole, with a zero byte behind it if there is room for one, or nothing if there
+ * is less room. Where no text is asked for, an answer of 0 may leave all as it was. */
+static bool is_text(const char *room, size_t bytes, uint32_t length) {
+    bool is_there = length < bytes || length == bytes;
+    for (size_t at = 0; at < bytes; at++) {
+        bool is_filled = room[at] == FILL, is_end = room[at] == 0;
+        if (is_there && at < length ? is_filled || is_end : is_there && at == length ? !is_end && (length > 0 || !is_filled) : !is_filled)
+            return false;
+    }
     return true;
 }
 
-/* Asks for texts in a room of a drawn length: why an edge is refused, and how it is spelled. Returns how long the first is. */
+/* Asks for texts in rooms of a drawn length: why an edge is refused, how it is spelled, and a verdict. Returns how long the first is. */
 static uint32_t ask_texts(const struct vmebus *bus, unsigned long round) {
     uint32_t driver = draw_near(24), wire = draw_near(18), fall = draw_near(2), value = draw_near(56);
     size_t bytes = draw() % 64;
-    uint8_t *room = at_edge(TEXT, bytes);
-    memset(room, 0, bytes);
+    char *room = filled_text(bytes);
     uint32_t why = vmebus_why(bus, driver, wire, fall, value, draw_near(5), room, bytes);
-    if (!is_text(room, bytes, why)) fail("a text that is not in its room", round);
-    memset(room, 0, bytes);
+    if (why > VMEBUS_MOST_WHY || !is_text(room, bytes, why)) fail("a text that is not in its room", round);
+    room = filled_text(bytes);
     uint32_t line = vmebus_spell(driver, wire, fall, value, room, bytes);
-    if (!is_text(room, bytes, line)) fail("a line that is not in its room", round);
+    if (line > VMEBUS_MOST_LINE || !is_text(room, bytes, line)) fail("a line that is not in its room", round);
+    room = filled_text(bytes);
+    uint32_t verdict = vmebus_verdict(draw_near(0x600), draw_near(2), room, bytes);
+    if (verdict > VMEBUS_MOST_VERDICT || !is_text(room, bytes, verdict)) fail("a verdict that is not in its room", round);
     return why;
 }
 
@@ -178,7 +196,7 @@ static void draw_edge(const struct vmebus *bus, bool is_bus, unsigned long round
     struct vmebus_draws *draws = at_edge(DRAWS, sizeof *draws), before;
     size_t count = draw() % 25;
     uint32_t *masks = at_edge(MASKS, count * sizeof *masks), *edge = filled(1, 1);
-    vmebus_draws(draws, draw());
+    if (vmebus_seed(draws, draw()) != 0) fail("a seed that makes no draws", round);
     for (uint32_t left = draw() % 40; left > 0; left--) draws->words[draw() % VMEBUS_DRAWS_WORDS] = draw();
     if (draw() % 8 == 0) memset(draws, 0, sizeof *draws);
     for (size_t at = 0; at < count; at++) masks[at] = draw();
@@ -203,21 +221,21 @@ static void look_around(const struct vmebus *bus, bool is_bus, unsigned long rou
 }
 
 /* A line of drawn bytes, or of the trace, perhaps with a byte drawn. Returns how many bytes it has. */
-static size_t draw_line(uint8_t *line, size_t room, const uint8_t *trace, size_t trace_bytes) {
+static size_t draw_line(char *line, size_t room, const char *trace, size_t trace_bytes) {
     size_t bytes = draw() % room, at = draw() % trace_bytes;
-    for (size_t it = 0; it < bytes; it++) line[it] = (uint8_t)draw();
+    for (size_t it = 0; it < bytes; it++) line[it] = (char)draw();
     if (draw() % 2) return bytes;
-    const uint8_t *feed = memchr(trace + at, '\n', trace_bytes - at);
-    const uint8_t *from = feed ? feed + 1 : trace + 6;
-    const uint8_t *to = memchr(from, '\n', (size_t)(trace + trace_bytes - from));
+    const char *feed = memchr(trace + at, '\n', trace_bytes - at);
+    const char *from = feed ? feed + 1 : trace + 6;
+    const char *to = memchr(from, '\n', (size_t)(trace + trace_bytes - from));
     bytes = to && (size_t)(to - from) < room ? (size_t)(to - from) : 0;
     memcpy(line, from, bytes);
-    if (bytes && draw() % 4 == 0) line[draw() % bytes] = (uint8_t)draw();
+    if (bytes && draw() % 4 == 0) line[draw() % bytes] = (char)draw();
     return bytes;
 }
 
 /* Steps a drawn edge, and a line that is drawn or a line of the trace, and looks at all that a bus tells. */
-static void step_round(struct vmebus *bus, const uint8_t *trace, size_t trace_bytes, unsigned long round) {
+static void step_round(struct vmebus *bus, const char *trace, size_t trace_bytes, unsigned long round) {
     struct vmebus before = *bus;
     uint32_t *delivered = at_edge(DELIVERED, sizeof *delivered);
     *delivered = draw();
@@ -225,9 +243,9 @@ static void step_round(struct vmebus *bus, const uint8_t *trace, size_t trace_by
     uint32_t answer = vmebus_step(bus, driver, wire, fall, value, delivered);
     look_at(answer, *delivered, bus, &before, round);
 
-    uint8_t drawn[80];
+    char drawn[80];
     size_t bytes = draw_line(drawn, sizeof drawn, trace, trace_bytes);
-    uint8_t *line = at_edge(TEXT, bytes);
+    char *line = at_edge(TEXT, bytes);
     memcpy(line, drawn, bytes);
     before = *bus;
     *delivered = draw();
@@ -236,20 +254,49 @@ static void step_round(struct vmebus *bus, const uint8_t *trace, size_t trace_by
     look_around(bus, answer != VMEBUS_NO_BUS, round);
 }
 
-/* Opens a bus by a scenario some of whose bytes are drawn. */
-static void open_round(struct vmebus *bus, const uint8_t *scenario, size_t bytes, unsigned long round) {
+/* Bytes of a scenario, some of which are drawn. */
+static const char *drawn_scenario(const char *scenario, size_t *bytes) {
+    if (draw() % 4 == 0) *bytes = draw() % *bytes;
+    char *text = at_edge(SCENARIO, *bytes);
+    memcpy(text, scenario, *bytes);
+    for (uint32_t left = draw() % 4; left > 0 && *bytes > 0; left--) text[draw() % *bytes] = (char)draw();
+    return text;
+}
+
+/* Opens a bus by such a scenario, and asks for the line of its fault in a room of a drawn length. */
+static void open_round(struct vmebus *bus, const char *scenario, size_t bytes, unsigned long round) {
     struct vmebus before = *bus;
-    if (draw() % 4 == 0) bytes = draw() % bytes;
-    uint8_t *text = at_edge(TEXT, bytes);
-    memcpy(text, scenario, bytes);
-    for (uint32_t left = draw() % 4; left > 0 && bytes > 0; left--) text[draw() % bytes] = (uint8_t)draw();
-    uint32_t fault = vmebus_open(bus, draw_near(4), text, bytes);
-    if (fault > 31) fail("a fault that is none", round);
+    uint32_t version = draw_near(4);
+    const char *text = drawn_scenario(scenario, &bytes);
+    uint32_t fault = vmebus_open(bus, version, text, bytes);
+    if (fault > VMEBUS_FAULT_X1) fail("a fault that is none", round);
     if (fault != 0 && memcmp(bus, &before, sizeof *bus) != 0) fail("a fault that changed a bus", round);
+    size_t room = draw() % 80;
+    char *line = filled_text(room);
+    uint32_t length = vmebus_fault_text(version, text, bytes, line, room);
+    if ((length != 0) != (fault != 0)) fail("a fault without a line, or a line without a fault", round);
+    if (length > VMEBUS_MOST_FAULT || !is_text(line, room, length)) fail("the line of a fault that is not in its room", round);
+}
+
+/* Hands over a bus and draws of another size, which have to stay untouched: there is no more of them. */
+static void other_sizes(const char *scenario, size_t scenario_bytes, unsigned long round) {
+    size_t bytes = draw() % sizeof(struct vmebus);
+    char *room = at_edge(BUS, bytes);
+    memset(room, FILL, bytes);
+    if (vmebus_open_sized((struct vmebus *)room, bytes, 1, scenario, scenario_bytes) != VMEBUS_FAULT_SIZE)
+        fail("a bus of another size that is opened", round);
+    for (size_t at = 0; at < bytes; at++)
+        if (room[at] != FILL) fail("a bus of another size that is written", round);
+    bytes = draw() % sizeof(struct vmebus_draws);
+    room = at_edge(DRAWS, bytes);
+    memset(room, FILL, bytes);
+    if (vmebus_seed_sized((struct vmebus_draws *)room, bytes, draw()) != VMEBUS_FAULT_SIZE) fail("draws of another size", round);
+    for (size_t at = 0; at < bytes; at++)
+        if (room[at] != FILL) fail("draws of another size that are written", round);
 }
 
 int main(int count, char **words) {
-    static uint8_t scenario[4096], trace[65536];
+    static char scenario[4096], trace[65536];
     if (count < 3) {
         fprintf(stderr, "usage: any_words SCENARIO TRACE [ROUNDS]\n");
         return 1;
@@ -271,6 +318,7 @@ int main(int count, char **words) {
     *bus = opened;
     for (unsigned long round = 1; round <= rounds; round++) {
         go_on(&running, &opened, trace, trace_bytes, &at);
+        if (round % 16 == 0) other_sizes(scenario, scenario_bytes, round);
         if (round % 4 == 0) {
             bus = at_edge(BUS, sizeof *bus);
             draw_bus(bus, &running);

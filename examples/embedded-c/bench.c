@@ -24,10 +24,10 @@ static void fail(const char *what, unsigned long number) {
 }
 
 /* Reads a whole file. */
-static uint8_t *read_file(const char *path, size_t *bytes) {
+static char *read_file(const char *path, size_t *bytes) {
     FILE *file = fopen(path, "rb");
     size_t room = 4096;
-    uint8_t *text = malloc(room);
+    char *text = malloc(room);
     *bytes = 0;
     while (file && text) {
         size_t count = fread(text + *bytes, 1, room - *bytes, file);
@@ -44,7 +44,7 @@ static uint8_t *read_file(const char *path, size_t *bytes) {
 }
 
 /* The numbers of the edge that a line spells, which vmebus_line has found to spell one. */
-static struct edge numbers_of(const uint8_t *line, size_t bytes) {
+static struct edge numbers_of(const char *line, size_t bytes) {
     char text[65] = "", wire[8] = "", sign = 0, kind = 0;
     unsigned driver = 0, argument = 0;
     struct edge edge = {0, 0, 0, 0};
@@ -62,23 +62,13 @@ static struct edge numbers_of(const uint8_t *line, size_t bytes) {
 
 /* Prints the verdict on the edge of a number. */
 static void print_verdict(unsigned long number, uint32_t answer, uint32_t delivered) {
-    static const char *const rules[] = {"", "", "", " G", " S"};
-    printf("%lu ", number);
-    if (answer != VMEBUS_ACCEPTED) {
-        unsigned error = VMEBUS_ERROR(answer);
-        printf("E%u%s", error, rules[error]);
-        if (error > 2) printf("%u", VMEBUS_RULE(answer));
-    } else {
-        printf("ok");
-    }
-    if (delivered != 0)
-        printf(" irq %u to %u from %u status %u", VMEBUS_LEVEL(delivered), VMEBUS_HANDLER(delivered),
-               VMEBUS_ANSWERED_BY(delivered), VMEBUS_STATUS(delivered));
-    putchar('\n');
+    char verdict[VMEBUS_MOST_VERDICT + 1];
+    vmebus_verdict(answer, delivered, verdict, sizeof verdict);
+    printf("%lu %s\n", number, verdict);
 }
 
 /* Judges the edge of a line on both buses, and answers the verdict. */
-static uint32_t judge(struct vmebus *by_line, struct vmebus *by_numbers, unsigned long number, const uint8_t *line,
+static uint32_t judge(struct vmebus *by_line, struct vmebus *by_numbers, unsigned long number, const char *line,
                       size_t bytes) {
     uint32_t told, told_too;
     uint32_t answer = vmebus_line(by_line, line, bytes, &told);
@@ -95,7 +85,7 @@ static uint32_t judge(struct vmebus *by_line, struct vmebus *by_numbers, unsigne
 }
 
 /* The version of a trace's header, and where its first edge begins. */
-static uint32_t version_of(const uint8_t *trace, size_t bytes) {
+static uint32_t version_of(const char *trace, size_t bytes) {
     if (bytes < 6 || memcmp(trace, "vme ", 4) != 0 || trace[5] != '\n') fail("no header of a trace: line", 1);
     return (uint32_t)(trace[4] - '0');
 }
@@ -106,17 +96,21 @@ int main(int count, char **words) {
         return 1;
     }
     size_t scenario_bytes, trace_bytes;
-    uint8_t *scenario = read_file(words[1], &scenario_bytes), *trace = read_file(words[2], &trace_bytes);
+    char *scenario = read_file(words[1], &scenario_bytes), *trace = read_file(words[2], &trace_bytes);
     uint32_t version = version_of(trace, trace_bytes);
     struct vmebus by_line, by_numbers;
     memset(&by_line, 0, sizeof by_line);
     memset(&by_numbers, 0xff, sizeof by_numbers);
-    uint32_t fault = vmebus_open(&by_line, version, scenario, scenario_bytes);
-    if (fault == 0) fault = vmebus_open(&by_numbers, version, scenario, scenario_bytes);
-    if (fault != 0) fail("the bus is not opened: fault", fault);
+    if (vmebus_open(&by_line, version, scenario, scenario_bytes) != 0 ||
+        vmebus_open(&by_numbers, version, scenario, scenario_bytes) != 0) {
+        char fault[VMEBUS_MOST_FAULT + 1];
+        vmebus_fault_text(version, scenario, scenario_bytes, fault, sizeof fault);
+        fprintf(stderr, "bench: %s\n", fault);
+        exit(1);
+    }
 
     unsigned long accepted = 0, refused = 0;
-    const uint8_t *end = trace + trace_bytes, *line = trace + 6, *feed;
+    const char *end = trace + trace_bytes, *line = trace + 6, *feed;
     for (; (feed = memchr(line, '\n', (size_t)(end - line))) != NULL; line = feed + 1) {
         if (judge(&by_line, &by_numbers, accepted + refused + 1, line, (size_t)(feed - line)) == VMEBUS_ACCEPTED)
             accepted++;

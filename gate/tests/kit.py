@@ -1,11 +1,16 @@
 """Tests of gate/kit, with a small command `rt` in place of the kit's, which proves nothing."""
 
+from __future__ import annotations
+
 import os
-import re
 import shutil
 import signal
 import subprocess
+import tempfile
 import time
+import unittest
+from pathlib import Path
+from typing import Callable
 
 from tests import small
 
@@ -34,119 +39,103 @@ exit 2
 TOTAL = "2 passed, 0 failed (1 crate)"
 
 
-def test_all(count, room):
-    """Runs all tests of this file."""
-    root = f"{room}/a repository"
-    small.lay_out(root, {})
-    small.write(f"{root}/crates.txt", "# none\nnumbers:\nendless may_wait=2: numbers\n")
-    shutil.copytree(f"{root}/crates/numbers", f"{root}/crates/endless")
-    left_out = shutil.ignore_patterns("tests", "__pycache__")
-    shutil.copytree(small.GATE, f"{root}/gate", ignore=left_out)
-    small.write(f"{root}/gate/singly", "")
-    small.write(f"{root}/bin/rt", KIT)
-    os.chmod(f"{root}/bin/rt", 0o755)
-    os.mkdir(f"{room}/scratch")
-    for test in (test_names, test_help, test_passes, test_background, test_interrupt, test_older):
-        test(count, root)
+class Kit(unittest.TestCase):
+    """Calls of gate/kit in a small repository of two crates."""
 
+    def setUp(self) -> None:
+        self.room = Path(tempfile.mkdtemp(prefix="kit-"))
+        self.addCleanup(shutil.rmtree, self.room)
+        self.root, self.scratch, self.calls = self.room / "a repository", self.room / "scratch", self.room / "calls"
+        small.lay_out(self.root, {})
+        (self.root / "crates.txt").write_text("# none\nnumbers:\nendless may_wait=2: numbers\n")
+        shutil.copytree(self.root / "crates/numbers", self.root / "crates/endless")
+        shutil.copytree(small.GATE, self.root / "gate", ignore=shutil.ignore_patterns("tests", "__pycache__"))
+        self.play(KIT)
+        self.scratch.mkdir()
 
-def scratch(root):
-    """The folder for temporary files, which is none of the repository."""
-    return f"{os.path.dirname(root)}/scratch"
+    def play(self, kit: str) -> None:
+        """Lays such a kit beside the repository."""
+        small.write(f"{self.root}/bin/rt", kit)
+        (self.root / "bin/rt").chmod(0o755)
 
+    def start(self, *words: str, program: str = "gate/kit", **more: str) -> subprocess.Popen[str]:
+        """Starts gate/kit there, with its temporary files in a folder of their own."""
+        given = {"PATH": f"{self.root}/bin:{os.environ['PATH']}", "CALLS": str(self.calls), "TMPDIR": str(self.scratch), **more}
+        return subprocess.Popen(
+            [program, *words], cwd=self.root, env={**os.environ, **given}, text=True,
+            stdout=subprocess.PIPE, stderr=subprocess.STDOUT,
+        )
 
-def start(root, *words):
-    """Starts gate/kit there, with its temporary files in a folder of their own."""
-    more = {"PATH": f"{root}/bin:{os.environ['PATH']}", "CALLS": f"{root}/calls"}
-    more["TMPDIR"] = scratch(root)
-    how = {"text": True, "stdout": subprocess.PIPE, "stderr": subprocess.STDOUT}
-    return subprocess.Popen([f"{root}/gate/kit", *words], env={**os.environ, **more}, **how)
+    def run_kit(self, *words: str, **how: str) -> tuple[int, str, str]:
+        """Runs it, and returns its status, what it said, and how the kit was called."""
+        self.calls.write_text("")
+        made = self.start(*words, **how)
+        said, _ = made.communicate(timeout=60)
+        return made.returncode, said, self.calls.read_text()
 
+    def wait_until(self, is_so: Callable[[], bool]) -> None:
+        end = time.monotonic() + 20
+        while not is_so() and time.monotonic() < end:
+            time.sleep(0.05)
 
-def run(root, *words):
-    """Runs gate/kit there, and returns its status, what it said, and how the kit was called."""
-    if os.path.exists(f"{root}/calls"):
-        os.remove(f"{root}/calls")
-    made = start(root, *words)
-    said, _ = made.communicate()
-    return made.returncode, said, calls(root)
+    def assert_nothing_left(self) -> None:
+        self.assertEqual(os.listdir(self.scratch), [])
 
+    def test_names(self) -> None:
+        """A name that is no crate is refused before anything is copied, also in the background."""
+        for words in (("numbers", "nosuch"), ("--background", "number"), ("none",), ("",)):
+            with self.subTest(words):
+                self.assertEqual(self.run_kit(*words), (1, f"gate/kit: no crate {words[-1]} in crates.txt\n", ""))
+                self.assert_nothing_left()
 
-def calls(root):
-    try:
-        with open(f"{root}/calls", encoding="utf-8") as text:
-            return text.read()
-    except FileNotFoundError:
-        return ""
+    def test_help(self) -> None:
+        """The help says what --background does; a call without names shows the help."""
+        for words, status in ((("--help",), 0), ((), 1), (("--background",), 1)):
+            with self.subTest(words):
+                ended, said, called = self.run_kit(*words)
+                self.assertEqual((ended, called), (status, ""))
+                for part in ("usage: gate/kit ", "the name of its log", "Once its last line is the total"):
+                    self.assertIn(part, " ".join(said.split()))
 
+    def test_passes(self) -> None:
+        """It calls the kit's gate on these crates, and ends as that does: also by a link, and beside another checkout that CDPATH has."""
+        (self.room / "link").symlink_to(self.root / "gate/kit")
+        (self.room / "other/gate").mkdir(parents=True)
+        for program in ("gate/kit", str(self.room / "link")):
+            with self.subTest(program):
+                status, said, called = self.run_kit("numbers", "endless", program=program, CDPATH=f"{self.room}/other")
+                self.assertEqual((status, said.splitlines()[-1], called), (0, TOTAL, "ci numbers endless\n"))
+                self.assert_nothing_left()
 
-def test_names(count, root):
-    """A name that is no crate is refused before anything is copied, also in the background."""
-    for words in (("numbers", "nosuch"), ("--background", "number"), ("none",), ("",)):
-        ran = run(root, *words)
-        wanted = 1, f"gate/kit: no crate {words[-1]} in crates.txt\n", ""
-        is_well = ran == wanted and not os.listdir(scratch(root))
-        count.tell(f"gate/kit {' '.join(words)}", is_well, str(ran))
+    def test_background(self) -> None:
+        """In the background it names its log, whose last line is the total once it has ended."""
+        status, said, _ = self.run_kit("--background", "numbers")
+        log = Path(said.rstrip("\n"))
+        self.assertRegex(str(log), r"/scratch/vmebus-kit-\w+\.log\Z")
+        self.wait_until(lambda: log.read_text().endswith(f"{TOTAL}\n") and os.listdir(self.scratch) == [log.name])
+        self.assertEqual((status, log.read_text().splitlines()[-1], self.calls.read_text()), (0, TOTAL, "ci numbers\n"))
 
+    def test_interrupt(self) -> None:
+        """What ends it ends what the kit leaves, too."""
+        made = self.start("endless")
+        self.wait_until(Path(f"{self.calls}.begun").exists)
+        made.send_signal(signal.SIGTERM)
+        said, _ = made.communicate(timeout=60)
+        self.assertEqual(made.returncode, 1, said)
+        self.assertEqual([it for it in filter(str.isdigit, os.listdir("/proc")) if self.works_here(it)], [])
+        self.assert_nothing_left()
 
-def test_help(count, root):
-    """The help says what --background does; a call without names shows the help."""
-    for words, status in ((("--help",), 0), ((), 1), (("--background",), 1)):
-        ran = run(root, *words)
-        said = " ".join(ran[1].split())
-        parts = "usage: gate/kit ", "the name of its log", "Once its last line is the total"
-        has_all = all(it in said for it in parts)
-        is_well = ran[0] == status and ran[2] == "" and has_all
-        count.tell(f"gate/kit {' '.join(words)} shows its help", is_well, str(ran))
+    def works_here(self, process: str) -> bool:
+        try:
+            return os.readlink(f"/proc/{process}/cwd").startswith(str(self.scratch))
+        except OSError:
+            return False
 
-
-def test_passes(count, root):
-    """It calls the kit's gate on these crates, and ends as that does."""
-    status, said, called = run(root, "numbers", "endless")
-    is_well = (status, said.splitlines()[-1], called) == (0, TOTAL, "ci numbers endless\n")
-    is_well = is_well and not os.listdir(scratch(root))
-    count.tell("crates that pass", is_well, f"{status} {said} {called}")
-
-
-def test_background(count, root):
-    """In the background it names its log, whose last line is the total once it has ended."""
-    status, said, _ = run(root, "--background", "numbers")
-    log, end, text = said.rstrip("\n"), time.monotonic() + 20, ""
-    while not text.endswith(f"{TOTAL}\n") and time.monotonic() < end:
-        time.sleep(0.05)
-        with open(log, encoding="utf-8") as it:
-            text = it.read()
-    is_well = status == 0 and re.fullmatch(r".*/scratch/vmebus-kit-\w+\.log", log)
-    is_well = is_well and calls(root) == "ci numbers\n" and text.splitlines()[-1] == TOTAL
-    count.tell("in the background", is_well, f"{status} {said} {text}")
-    os.remove(log)
-
-
-def test_interrupt(count, root):
-    """What ends it ends what the kit leaves, too."""
-    made = start(root, "endless")
-    end = time.monotonic() + 20
-    while not os.path.exists(f"{root}/calls.begun") and time.monotonic() < end:
-        time.sleep(0.05)
-    made.send_signal(signal.SIGTERM)
-    said, _ = made.communicate()
-    rest = [it for it in filter(str.isdigit, os.listdir("/proc")) if works_in(it, scratch(root))]
-    is_well = made.returncode == 1 and not rest and not os.listdir(scratch(root))
-    count.tell("an interrupt of gate/kit", is_well, f"{made.returncode} {said} {rest}")
-
-
-def test_older(count, root):
-    """A kit that keeps nothing of its gate is named in one line, also in the background."""
-    small.write(f"{root}/bin/rt", OLDER)
-    said = "gate/kit: this kit keeps nothing of rt ci, so a later ./check proves these crates anyway\n"
-    for words in (("numbers",), ("--background", "numbers", "endless")):
-        ran = run(root, *words)
-        is_well = ran == (1, said, "") and not os.listdir(scratch(root))
-        count.tell(f"gate/kit {' '.join(words)} by an older kit", is_well, str(ran))
-
-
-def works_in(process, folder):
-    try:
-        return os.readlink(f"/proc/{process}/cwd").startswith(folder)
-    except OSError:
-        return False
+    def test_older(self) -> None:
+        """A kit that keeps nothing of its gate is named in one line, also in the background."""
+        self.play(OLDER)
+        said = "gate/kit: this kit keeps nothing of rt ci, so a later ./check proves these crates anyway\n"
+        for words in (("numbers",), ("--background", "numbers", "endless")):
+            with self.subTest(words):
+                self.assertEqual(self.run_kit(*words), (1, said, ""))
+                self.assert_nothing_left()

@@ -1,18 +1,16 @@
 """A kit of the tests' own, by which an edit takes no time: its prover refuses a function whose name stands after `wrong_` in the source.
 
-Like the kit's it keeps work, and offers what it would have proved by, if it has a folder for that. It notes its calls in the file that
-VMEBUS_TEST_CALLS names, if it does.
+Like the kit's it keeps work, and offers what it would have proved by, if it has a folder for that.
 """
 
 import os
+from typing import Dict
 
 from tests.small import write
 
 PROVER = """#!/usr/bin/env python3
-import json
 import os
 import sys
-import time
 
 def is_made(folder):
     try:
@@ -21,27 +19,14 @@ def is_made(folder):
         return False
     return True
 
-def note(began):
-    name = f"work/{os.getpid()}.oantt"
-    found = [f"work/{it}" for it in os.listdir(f"{kept}/work")]
-    time.sleep(0.5)
-    open(f"{kept}/{name}", "w").close()
-    one = text.partition("fn one() -> u8 {")[2].partition("}")[0].strip()
-    said = {"began": began, "ended": time.time(), "folder": os.getcwd()}
-    with open(os.environ["VMEBUS_TEST_CALLS"], "a") as notes:
-        notes.write(json.dumps({**said, "one": one, "keeps": name, "found": found}) + "\\n")
-
-began = time.time()
 words = sys.argv[1:]
 kept = words[words.index("--incremental") + 1]
 is_made(f"{kept}/work")
 text = open("src/lib.rt", encoding="utf-8").read()
-if "VMEBUS_TEST_CALLS" in os.environ:
-    note(began)
-asked = [words[at + 1].rpartition("::")[2] for at, it in enumerate(words) if it == "--only"]
+asked = [words[at + 1].rpartition("::")[2] for at, word in enumerate(words) if word == "--only"]
 for name in asked:
     if f"wrong_{name}" in text:
-        print(f"src/lib.rt:1:1: {name} is wrong\\nfn numbers::{name}: no proof: `search` did not prove it")
+        print(f"fn numbers::{name}: no proof: `search` did not prove `returns`")
     else:
         print(f"fn numbers::{name}: proved")
 if is_made(f"{kept}/work-offers") or is_made(os.environ.get("TMPDIR", "/tmp") + "/rattle-offers"):
@@ -72,10 +57,10 @@ GOOD = {"one_is_wrong": ("    1", "    wrong_one()"), "two_is_wrong": ("    2", 
 BAD = {"one_is_right": ("    1", "    2 - 1")}
 
 
-def lay_out(folder, name="a kit"):
+def lay_out(folder: str, name: str = "a kit") -> Dict[str, str]:
     """Makes the kit, and returns the environment in which its `rt` is found."""
     for file, text in {"KIT-ID": name, "bin/rattle": PROVER, "bin/rt": BUILDER, "rlibs/std.rlib/format": "", "logic_built/it": "", "rattle/logic/it": ""}.items():
         write(f"{folder}/{file}", text)
-    for it in ("rattle", "rt"):
-        os.chmod(f"{folder}/bin/{it}", 0o755)
+    for command in ("rattle", "rt"):
+        os.chmod(f"{folder}/bin/{command}", 0o755)
     return {"PATH": f"{folder}/bin:{os.environ['PATH']}"}

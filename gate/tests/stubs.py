@@ -1,31 +1,15 @@
-"""Tests of gate/stubs.py: which functions of a crate are tried without their bodies, and what stands in their place."""
+"""Tests of gate/stubs.py: which functions of a crate are tried without their bodies, what stands in their place, and where proofs lie."""
 
+import os
+
+from tests import small
+from tests.small import GATE, Case
 import sources
 import stubs
-from tests.small import lay_out, run, write
+from sources import Texts
+from trees import Repository
 
-SOURCE = """//! Numbers, for the tests of gate/stubs.py.
-#![tactic(auto)]
-
-ghost use Rattle.std.specs.Prelude.{◌≡◌, ◌+◌, ◌<◌};
-
-/// The number after this one.
-pub fn next(number: u8) -> u8
-    requires { number < 255 }
-    ensures { result ≡ number + 1 }
-{
-    number + 1
-}
-
-/// The number after the next one.
-pub fn after_next(number: u8) -> u8
-    requires { number < 254 }
-    ensures { result ≡ number + 2 }
-{
-    next(next(number))
-}
-
-/// The number four after this one, by a proof by hand.
+SOURCE = small.SOURCE.partition("/// The lesser")[0] + """/// The number four after this one, by a proof by hand.
 pub fn fourth(number: u8) -> u8
     requires { number < 252 }
     ensures { result ≡ number + 4 }
@@ -72,55 +56,46 @@ value_spec {M} = unproved (statement M)
 """
 
 
-def test_all(count, room):
-    """Runs all tests of this file."""
-    test_texts(count)
-    test_calls(count)
-    test_verdicts(count, room)
+class Stubs(Case):
+    """The texts without bodies."""
+
+    def test_texts(self) -> None:
+        """Bodies are left out but for those that are to stay, with the proofs that went with them."""
+        texts = {"src/lib.rt": SOURCE, "proofs/next/Answers.antt": ANSWERS, "proofs/after_next/Answers.antt": ANSWERS}
+        made = stubs.stubbed("numbers", texts, {"numbers::after_next"})
+        source = made["src/lib.rt"]
+        self.tell("bodies are left out", source.count("unreachable!()") == len(STRIPPED) and all(body in source for body in STRIPPED.values()), source)
+        self.tell("bodies that matter stay", all(body in source for body in KEPT), source)
+        heads = [line for line in SOURCE.split("\n") if "fn " in line or " ensures " in line or " requires " in line]
+        self.tell("heads stay", all(line in source for line in heads), source)
+        wanted = ["Lib.antt", "Number/value/Proof.antt", "Unproved.antt", "after_next/Answers.antt", "fourth/Proof.antt", "next/Proof.antt"]
+        self.same("a lemma is in place of proofs", sorted(file[len("proofs/") :] for file in made if file.startswith("proofs/")), wanted)
+        self.same("its use", (made["proofs/Number/value/Proof.antt"], made["proofs/Lib.antt"].split()), (UNPROVED, ["pub", "mod", "Unproved"]))
+        self.same("a function is named by the end of its path", stubs.stubbed("numbers", texts, {"after_next"}), made)
+        cyclic = stubs.stubbed("numbers", {**texts, "proofs/+next/Proof.antt": ANSWERS}, set())["src/lib.rt"]
+        self.tell("what is in a cycle stays", "    number + 1\n" in cyclic, cyclic)
+
+    def test_calls(self) -> None:
+        """A method may call itself, but not by a field."""
+        method = sources.Function("Number::value", 0, 0, 0)
+        own = ("self.value()", "Self::value(it)", "Number::value::<u8>(it)", "other.value()", "self.other().value()", "self.one.value() + self.value()")
+        others = ("self.one.value()", "self.one.two.value()", "self\n    .one\n    .value()", "Other::value(it)", "value(it)", "self.values()")
+        found = [[call for call in calls if stubs.calls_itself(method, call)] for calls in (own, others)]
+        self.same("calls of itself", found, [[*own], []])
+
+    def test_folders(self) -> None:
+        """A method's proof lies where its type is declared, and each folder of a proof of this repository is found to be that of a function."""
+        texts = {"src/lib.rt": "mod kinds;\n", "src/kinds.rt": "pub(crate) struct Kind {\n    pub value: u8,\n}\n"}
+        texts["src/values.rt"] = "impl Kind {\n    fn value(&self) -> u8 {\n        self.value\n    }\n}\n"
+        (value,) = sources.functions("numbers", "src/values.rt", texts["src/values.rt"])
+        self.same("a method's proof", stubs.folder_of("numbers", "src/values.rt", value, texts), "proofs/kinds/Kind/value")
+        repository = Repository(os.path.dirname(GATE))
+        self.same("each proof is of a function", [folder for crate in repository.lines for folder in folders_of_none(crate, repository.texts(crate))], [])
 
 
-def test_texts(count):
-    """Bodies are left out but for those that are to stay, with the proofs that went with them."""
-    texts = {"src/lib.rt": SOURCE, "proofs/next/Answers.antt": ANSWERS, "proofs/after_next/Answers.antt": ANSWERS}
-    made = stubs.stubbed("numbers", texts, {"numbers::after_next"})
-    source = made["src/lib.rt"]
-    count.tell("bodies are left out", source.count("unreachable!()") == len(STRIPPED) and all(it in source for it in STRIPPED.values()), source)
-    count.tell("bodies that matter stay", all(it in source for it in KEPT), source)
-    count.tell("heads stay", all(line in source for line in SOURCE.split("\n") if "fn " in line or " ensures " in line or " requires " in line), source)
-    found = sorted(it.removeprefix("proofs/") for it in made if it.startswith("proofs/"))
-    wanted = ["Lib.antt", "Number/value/Proof.antt", "Unproved.antt", "after_next/Answers.antt", "fourth/Proof.antt", "next/Proof.antt"]
-    is_well = found == wanted and made["proofs/Number/value/Proof.antt"] == UNPROVED and made["proofs/Lib.antt"].split("\n") == ["", "pub mod Unproved", ""]
-    count.tell("a lemma is in place of proofs", is_well, str(found))
-    by_end = stubs.stubbed("numbers", texts, {"after_next"})
-    count.tell("a function is named by the end of its path", by_end == made, str(sorted(by_end)))
-    cyclic = stubs.stubbed("numbers", {**texts, "proofs/+next/Proof.antt": ANSWERS}, set())["src/lib.rt"]
-    count.tell("what is in a cycle stays", "    number + 1\n" in cyclic, cyclic)
-
-
-def test_calls(count):
-    """A method may call itself, but not by a field."""
-    method = sources.Function("Number::value", 0, 0, 0)
-    calls = ("self.value()", "Self::value(it)", "Number::value::<u8>(it)", "other.value()", "self.other().value()", "self.one.value() + self.value()")
-    found = [it for it in calls if not stubs.calls_itself(method, it)]
-    count.tell("calls of itself", not found, str(found))
-    calls = ("self.one.value()", "self.one.two.value()", "self\n    .one\n    .value()", "Other::value(it)", "value(it)", "self.values()")
-    found = [it for it in calls if stubs.calls_itself(method, it)]
-    count.tell("calls of others", not found, str(found))
-
-
-def test_verdicts(count, room):
-    """An edit over functions without bodies is refused for its own fault alone."""
-    root = f"{room}/stubs"
-    lay_out(root, {}, SOURCE.partition("/// A number that")[0])
-    for name, (old, new) in {
-        "one_step": ("next(next(number))", "next(number)"),
-        "the_same_by_a_sum": ("next(next(number))", "next(number) + 1"),
-        "four_by_two": ("after_next(after_next(number))", "after_next(number)"),
-        "four_by_four": ("after_next(after_next(number))", "next(next(after_next(number)))"),
-    }.items():
-        write(f"{root}/crates/numbers/must-fail/{name}.edit", f"file: src/lib.rt\nold:     {old}\nnew:     {new}\n")
-    _, said = run(root)
-    for name in ("one_step", "four_by_two"):
-        count.tell(f"{name} is refused", f"numbers/{name}: refused at numbers::" in said, said[-900:])
-    for name in ("the_same_by_a_sum", "four_by_four"):
-        count.tell(f"{name} is not refused", f"numbers/{name}: FAILED: NOT REFUSED: numbers::" in said, said[-900:])
+def folders_of_none(crate: str, texts: Texts) -> list:
+    """The folders of proofs of a crate that are of no function, but for those of cycles of calls and of what a type promises."""
+    functions = ((file, function) for file, text in texts.items() if file.startswith("src/") for function in sources.functions(crate, file, text))
+    known = {stubs.folder_of(crate, file, function, texts) for file, function in functions}
+    folders = {os.path.dirname(file) for file in texts if file.startswith("proofs/") and os.path.basename(file) in stubs.FILES}
+    return [f"{crate}/{folder}" for folder in sorted(folders - known) if not os.path.basename(folder).startswith(("+", "The"))]

@@ -7,12 +7,14 @@ use Rattle.vme_model.specs.declared.Rule.TheVariants.{E1, E2, E5, S1, S2, S3, S4
 use Rattle.vme_model.specs.declared.Version.{Version}
 use Rattle.vme_model.specs.declared.Version.TheVariants.{One, Two}
 use Rattle.vme_model.specs.Sentences.{all_rules, rule_name, rule_named}
+use Rattle.vme_model.specs.Spoken.{kind_text, pattern}
 use Rattle.vme_goals.specs.declared.misses.Miss.{Miss}
+use Rattle.vme_goals.specs.declared.misses.Miss.TheVariants as miss
 use Rattle.vme_goals.specs.declared.goals.Aim.{Aim}
 use Rattle.vme_goals.specs.declared.goals.Aim.TheVariants as aim
 use Rattle.vme_goals.specs.Goals.{aim_of, all_misses, miss_text}
 use Rattle.vme_command_line.specs.declared.mistakes.Mistake.{Mistake}
-use Rattle.vme_command_line.specs.declared.mistakes.Mistake.TheVariants.{NoCondition, OtherEvent, OtherCondition, Level, Foreign, Settled, NoRule, Unknown}
+use Rattle.vme_command_line.specs.declared.mistakes.Mistake.TheVariants.{NoCondition, OtherEvent, OtherCondition, Level, Bare, Foreign, Settled, NoRule, Unknown}
 
 abbrev pub other : Version → Version
 other One = Two
@@ -41,10 +43,19 @@ abbrev pub are_alike : List ℕ → List ℕ → Bool
 are_alike words text =
     length words == length text && list_all (λ p. is_alike p.0 p.1) (zip words text)
 
--- the words of a miss with a level in the place of N, with the mark of `explain` or without it
+-- the same, with the mark of `explain` or without it
+abbrev pub are_marked : List ℕ → List ℕ → Bool
+are_marked words text = are_alike words text || are_alike words (text ++ codes " (profile)")
+
+-- the words of a miss with a level in the place of N
 abbrev pub is_levelled : List ℕ → Miss → Bool
-is_levelled words m =
-    are_alike words (miss_text m) || are_alike words (miss_text m ++ codes " (profile)")
+is_levelled words m = are_marked words (miss_text m)
+
+-- the words of the condition of a miss, without its rule
+abbrev pub is_bare : List ℕ → Miss → Bool
+is_bare words (miss.Rule k c) = are_marked words (pattern c)
+is_bare words (miss.Unserved kind) = are_marked words (kind_text kind)
+is_bare words m = false
 
 -- words begin with the name of a rule, which a blank follows if they are more
 abbrev pub begin_with : List ℕ → Rule → Bool
@@ -79,12 +90,17 @@ mistake_of None is_like = if is_like then NoRule else Unknown
 abbrev pub mistake_by_rule : List ℕ → Mistake
 mistake_by_rule words = mistake_of (find (begin_with words) all_rules) (are_rule_like words)
 
+-- by the conditions of all rules
+abbrev pub mistake_without : List ℕ → Mistake
+mistake_without words =
+    if list_any (is_bare words) all_misses then Bare else mistake_by_rule words
+
 -- by what the words name in the other version
 abbrev pub mistake_by : Option Aim → List ℕ → Mistake
 mistake_by (Some (aim.Event e)) words = OtherEvent
 mistake_by (Some (aim.Miss m)) words = OtherCondition
 mistake_by None words =
-    if list_any (is_levelled words) all_misses then Level else mistake_by_rule words
+    if list_any (is_levelled words) all_misses then Level else mistake_without words
 
 abbrev pub mistake_beside : List ℕ → Version → Mistake
 mistake_beside words version = mistake_by (aim_of words (other version)) words

@@ -3,11 +3,12 @@ ghost use Rattle.std.specs.Prelude.{◌≡◌, ◌≢◌, ◌⊎◌, IfOk};
 ghost use Rattle.clap.specs.Words.{kind_of};
 
 use crate::commands::{commands, drive, order, races, rule, show};
-use crate::mistakes::{Mistake, mistake_in};
+use crate::mistakes::{Mistake, is_bare, mistake_in};
 use crate::{MOST_SHOWN, Unfit};
 use clap::error::ErrorKind;
 use clap::{Command, Error};
 use std::alloc::{AllocError, Global};
+use vme_goals::Miss;
 use vme_model::Version;
 
 /// The usage error of a command for words that it accepts and that ask for no job, or the error of
@@ -31,9 +32,26 @@ fn no_window(alloc: Global, from: u64, to: u64) -> Result<Error, AllocError>
 {
     let most = from.saturating_add(MOST_SHOWN - 1);
     let text = format!(in alloc;
-        "invalid value '{to}' for '--to <B>': {to} is not in {from}..={most}"
+        "invalid value '{to}' for '--to <B>': B is {from} to {most}, \
+         at most {MOST_SHOWN} edges at once"
     )?;
     invalid(show(alloc), &text)
+}
+
+/// The rules that have a condition of these words, with commas between.
+fn rules_with(alloc: Global, words: &str) -> Result<String, AllocError> {
+    let mut rules = format!(in alloc; "")?;
+    for miss in &Miss::ALL {
+        if is_bare(words.as_bytes(), *miss) {
+            let comma = if rules.is_empty() { "" } else { ", " };
+            let rule = match *miss {
+                Miss::Rule(number, _) => number,
+                _ => 22,
+            };
+            rules = format!(in alloc; "{rules}{comma}G{rule}")?;
+        }
+    }
+    Ok(rules)
 }
 
 /// What is wrong with a name that is no goal in that version of the rules.
@@ -45,6 +63,10 @@ fn mistake_text(alloc: Global, named: &str, version: Version) -> Result<String, 
         Mistake::OtherEvent => format!(in alloc; "version {number} has no such event"),
         Mistake::OtherCondition => format!(in alloc; "version {number} has no such condition"),
         Mistake::Level => format!(in alloc; "N stands for a level, as in 'IRQN* is low'"),
+        Mistake::Bare => {
+            let rules = rules_with(alloc, named)?;
+            format!(in alloc; "a condition needs its rule before it: {rules}")
+        }
         Mistake::Foreign => format!(in alloc; "rule {name} has no such condition"),
         Mistake::Settled => format!(in alloc; "{name} is named without its condition"),
         Mistake::NoRule => format!(in alloc; "no rule is called {name}"),

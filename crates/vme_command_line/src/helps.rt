@@ -190,12 +190,13 @@ pub(crate) const SUMMARY_EXAMPLE: &str =
 none was accepted, and which events came, how often, and which never did. For each board it
 prints how often it requested the bus, how many edges it waited for it and held it, and how
 often it answered. `first N` and `since N` are numbers of edges in the trace; N counts refused
-edges too. The exit status is 2 if an edge was refused, 0 if none was, and 1 at a fault, and
-then nothing is printed.
+edges too. The exit status is 2 if an edge was refused, 0 if none was, and 1 at a fault. If the
+only trace has a fault, nothing is printed.
 
-If there are several traces, each begins at power-up. It prints the sums over all of them, and
-the greatest of their longest waits and holds. No number of an edge is printed then.
-docs/COMMANDS.md has each line.
+If there are several traces, each begins at power-up. It names those in which an edge was
+refused, and reports those that have a fault. Then it prints how many have none, the sums over
+these, and the greatest of their longest waits and holds, without numbers of edges. If all have
+a fault, it prints no sums. docs/COMMANDS.md has each line.
 
 Examples:
   vmebus summary board.toml tenure.vme
@@ -290,8 +291,8 @@ exit status is 0. It leaves the edges as they are listed as far as the rules let
 order is allowed, the longest beginning that is allowed is printed, and after it each edge that
 could come next. All of these are refused there, and `vmebus explain` says why the first of
 them is. The exit status is 2 then, and 1 at a fault. With --where each edge of that trace has
-a line with its number, its line in MOMENTS and its moment. docs/COMMANDS.md has each line, and
-docs/RTL.md says how to print moments.
+a line with its number, its line in MOMENTS, its moment and, if it is refused, its verdict.
+docs/COMMANDS.md has each line, and docs/RTL.md says how to print moments.
 
 Example:
   vmebus order board.toml seen.vme --slack c=2 > tenure.vme";
@@ -326,7 +327,8 @@ docs/COMMANDS.md says what each event is, and which six conditions never refuse 
 so that they are no EVENT.
 
 With --of only edges of that driver count, and with --after only those with at least N edges
-before them. So you get tests of one board, and not all of them from power-up.
+before them. So you get tests of one board, and not all of them from power-up. If the scenario
+lacks what EVENT needs, such as a board there, nothing is drawn, and the exit status is 1.
 
 With --seeds it tries the seeds S to T in order. The first that reaches EVENT within the given
 number of edges is printed on standard error, as `seed S`, and its trace on standard output.

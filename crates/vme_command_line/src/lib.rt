@@ -36,7 +36,7 @@ use vme_moments::Slacks;
 
 /// The program's name and its version, as the line that `--version` prints. The version stands only
 /// here.
-pub const VERSION: &str = "vmebus 1.0.0\n";
+pub const VERSION: &str = "vmebus 2.0.0\n";
 
 /// The most edges that `drive` and `run` make. Source: profile (E5).
 pub const MOST_EDGES: u32 = TRACE_LIMIT;

@@ -1,5 +1,5 @@
 //! What is wrong with words after `--until` that name nothing.
-ghost use Rattle.std.specs.Prelude.{◌≡◌, find};
+ghost use Rattle.std.specs.Prelude.{◌≡◌, ◌≤◌, find, length};
 ghost use Rattle.std.specs.List.{list_any};
 ghost use Rattle.vme_model.specs.Sentences.{all_rules};
 ghost use Rattle.vme_goals.specs.Goals.{all_misses};
@@ -21,6 +21,8 @@ pub(crate) enum Mistake {
     OtherCondition,
     /// They are a condition with a level in the place of N.
     Level,
+    /// They are a condition without its rule.
+    Bare,
     /// They are an edge rule with a condition that it does not have.
     Foreign,
     /// They are a settling rule with more words.
@@ -69,17 +71,34 @@ fn are_alike(words: &[u8], text: &[u8]) -> bool
             .all(|(byte, wanted)| is_alike(*byte, *wanted))
 }
 
-/// Whether the words are those of the miss with a level in the place of N, with the mark of
-/// `explain` or without it.
+/// Whether the words are this text, of at most 53 bytes, or have digits in the place of N, with the
+/// mark of `explain` or without it.
+fn are_marked(words: &[u8], text: &[u8]) -> bool
+    requires { length text.now ≤ 53 }
+    ensures { result ≡ spec.are_marked words.now text.now }
+{
+    let mut marked: ArrayVec<u8, 80> = ArrayVec::new();
+    push(&mut marked, text);
+    push(&mut marked, b" (profile)");
+    are_alike(words, text) || are_alike(words, marked.as_slice())
+}
+
+/// Whether the words are those of the miss with a level in the place of N.
 fn is_levelled(words: &[u8], miss: Miss) -> bool
     ensures { result ≡ spec.is_levelled words.now miss }
 {
-    let mut text = miss.text();
-    if are_alike(words, text.as_slice()) {
-        return true;
+    are_marked(words, miss.text().as_slice())
+}
+
+/// Whether the words are those of the condition of the miss, without its rule.
+pub(crate) fn is_bare(words: &[u8], miss: Miss) -> bool
+    ensures { result ≡ spec.is_bare words.now miss }
+{
+    match miss {
+        Miss::Rule(_, condition) => are_marked(words, condition.pattern().as_bytes()),
+        Miss::Unserved(kind) => are_marked(words, kind.service_text().as_bytes()),
+        Miss::Settling(_) | Miss::AnyOf(_) => false,
     }
-    push(&mut text, b" (profile)");
-    are_alike(words, text.as_slice())
 }
 
 /// Whether the words are those of some miss with a level in the place of N.
@@ -94,6 +113,20 @@ fn have_any_level(words: &[u8]) -> bool
     ensures { result ≡ list_any (spec.is_levelled words.now) all_misses }
 {
     have_level(words, &Miss::ALL)
+}
+
+/// Whether the words are those of the condition of some miss, without its rule.
+fn lack_rule(words: &[u8], misses: &[Miss]) -> bool
+    ensures { result ≡ list_any (spec.is_bare words.now) misses.now }
+{
+    misses.iter().any(|miss| is_bare(words, *miss))
+}
+
+/// Whether the words are those of the condition of any miss, without its rule.
+fn lack_any_rule(words: &[u8]) -> bool
+    ensures { result ≡ list_any (spec.is_bare words.now) all_misses }
+{
+    lack_rule(words, &Miss::ALL)
 }
 
 /// Whether the words begin with the name of the rule, which a blank follows if they are more.
@@ -155,6 +188,17 @@ fn mistake_by_rule(words: &[u8]) -> Mistake
     }
 }
 
+/// What is wrong with words that have no level in the place of N.
+fn mistake_without(words: &[u8]) -> Mistake
+    ensures { result ≡ spec.mistake_without words.now }
+{
+    if lack_any_rule(words) {
+        Mistake::Bare
+    } else {
+        mistake_by_rule(words)
+    }
+}
+
 /// What is wrong with words that are not an edge rule alone.
 fn mistake_beside(words: &str, version: Version) -> Mistake
     ensures { result ≡ spec.mistake_beside words.now version }
@@ -163,7 +207,7 @@ fn mistake_beside(words: &str, version: Version) -> Mistake
         Some(Aim::Event(_)) => Mistake::OtherEvent,
         Some(Aim::Miss(_)) => Mistake::OtherCondition,
         None if have_any_level(words.as_bytes()) => Mistake::Level,
-        None => mistake_by_rule(words.as_bytes()),
+        None => mistake_without(words.as_bytes()),
     }
 }
 

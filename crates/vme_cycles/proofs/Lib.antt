@@ -8,6 +8,8 @@ pub mod NextLines
 pub mod LeftOfTrace
 -- the cycles of a legal list do not overlap: `laws`
 pub mod OneCycle
+-- the tenures of a legal list do not overlap: `laws`
+pub mod OneTenure
 -- each is answered once before it ends: `laws`
 pub mod OneAnswer
 -- the numbers that a line names are those of falls: `laws`

@@ -2,7 +2,7 @@
 -- that report them. (A cycle is that of chapter 2, with the answer of chapters 2 and 4, and a
 -- tenure that of chapter 3; what is reported is this project's profile.) In each definition, k
 -- numbers the accepted edges so far.
-use Rattle.std.specs.Prelude.{◌≡◌, ◌+◌, ◌&&◌, ◌||◌, ℕ, Bool, true, not, if◌then◌else◌, Option, Some, None, Result, List, [], ◌∷◌, ◌++◌, codes, decimal, is_ok, nat_lt, unwrap_or}
+use Rattle.std.specs.Prelude.{◌≡◌, ◌+◌, ◌&&◌, ◌||◌, ℕ, Bool, true, not, if◌then◌else◌, Option, Some, None, Result, List, [], ◌∷◌, ◌++◌, codes, decimal, is_ok, nat_lt, option_map, unwrap_or}
 use Rattle.std.specs.List.{Contains}
 use Rattle.std.specs.Option.{option_map_or}
 use Rattle.vme_model.specs.declared.deliveries.Delivery.{Delivery}
@@ -50,6 +50,10 @@ cycle_of [] = None
 cycle_of ((n, e) ∷ k) =
     if is_same_wire e.wire AddressStrobe then (if e.fall then Some e.driver else None)
     else cycle_of k
+
+-- whose tenure is under way: the board holds the bus
+abbrev pub tenure_of : Plan → Numbered → Option Driver
+tenure_of p k = option_map (λ s. Slot s) (holder p (edges_in k))
 
 -- what was shown at the last `as-`
 abbrev pub showed : Plan → Numbered → Option Cycle
@@ -161,20 +165,19 @@ lines_on b n k (e ∷ es) =
 
 -- ---- what is under way
 
--- the line of the cycle, if one is, and of the tenure of the board that holds the bus
+-- the line of the cycle, if one is, and of the tenure
 abbrev pub open_cycle_line : Plan → Numbered → List ℕ
 open_cycle_line p k = option_map_or (λ d. cycle_line p None d k) (cycle_of k) []
 
 abbrev pub open_tenure_line : Plan → Numbered → List ℕ
-open_tenure_line p k =
-    option_map_or (λ s. tenure_line None (Slot s) k) (holder p (edges_in k)) []
+open_tenure_line p k = option_map_or (λ d. tenure_line None d k) (tenure_of p k) []
 
 -- the edge that began it; 0 if there is none
 abbrev pub cycle_begun : Numbered → ℕ
 cycle_begun k = option_map_or (λ d. last_on k d AddressStrobe) (cycle_of k) 0
 
 abbrev pub tenure_begun : Plan → Numbered → ℕ
-tenure_begun p k = option_map_or (λ s. last_on k (Slot s) Bbsy) (holder p (edges_in k)) 0
+tenure_begun p k = option_map_or (λ d. last_on k d Bbsy) (tenure_of p k) 0
 
 -- both, the one that began first before the other
 abbrev pub open_lines : Plan → Numbered → List ℕ

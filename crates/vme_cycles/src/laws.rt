@@ -13,7 +13,7 @@ ghost use Rattle.vme_model.specs.GrantSafety.{is_fall_on};
 ghost use Rattle.vme_model.specs.Numbered.{Numbered, edges_in};
 ghost use Rattle.vme_model.specs.Plan.{Plan};
 ghost use Rattle.vme_model.specs.Verdict.{IsLegal};
-ghost use Rattle.vme_cycles.specs.Transactions.{IsFallAt, answered, cycle_of, is_answer, is_rise_on, last_on, request_of};
+ghost use Rattle.vme_cycles.specs.Transactions.{IsFallAt, answered, cycle_of, is_answer, is_rise_on, last_on, request_of, tenure_of};
 
 /// No two cycles overlap: when one begins, none is under way.
 pub fn a_cycle_begins_alone()
@@ -41,6 +41,20 @@ pub fn a_cycle_is_answered_once()
     ensures { (v : Version) (p : Plan) (k : Numbered) (n : ℕ) (e : Edge) →
         IsAccepted p → IsLegal v p (edges_in ((n, e) ∷ k)) → is_answer e ≡ true
         → (cycle_of k ≢ None) × (answered p k ≡ None) }
+{}
+
+/// No two tenures overlap: when one begins, none is under way.
+pub fn a_tenure_begins_alone()
+    ensures { (v : Version) (p : Plan) (k : Numbered) (n : ℕ) (e : Edge) →
+        IsAccepted p → IsLegal v p (edges_in ((n, e) ∷ k)) → is_fall_on Bbsy e ≡ true
+        → tenure_of p k ≡ None }
+{}
+
+/// A tenure ends by its own board: a `bbsy+` is of the board whose tenure is under way.
+pub fn a_tenure_ends_by_its_board()
+    ensures { (v : Version) (p : Plan) (k : Numbered) (n : ℕ) (e : Edge) →
+        IsAccepted p → IsLegal v p (edges_in ((n, e) ∷ k)) → is_rise_on Bbsy e ≡ true
+        → tenure_of p k ≡ Some e.driver }
 {}
 
 /// A line begins with a fall: at a rise, the last edge on the driver's wire is its fall.

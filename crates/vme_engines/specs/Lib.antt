@@ -19,7 +19,7 @@ pub mod Stating
 pub mod Showing
 -- believe, for `summary` alone: what that leaves
 pub mod Summing
--- believe, for `add_trace` and `print_sums`: what several traces come to together
+-- believe, for `add_trace`: what one more trace does to the sums of those before it
 pub mod Totals
 -- believe, for `read_pair` alone: what is read of two traces side by side
 pub mod Pairs

@@ -1,14 +1,10 @@
 -- What traces of one scenario come to together.
 use Rattle.std.specs.Prelude.{◌≡◌, ◌∷◌, ℕ, List, Option, Some, None, Ok, Err}
-use Rattle.std.specs.Io.KnownBytes.{Appends}
 use Rattle.vme_model.specs.declared.signals.Version.{Version}
 use Rattle.vme_model.specs.Plan.{Plan}
 use Rattle.vme_model.specs.Text.{Reading, read_of}
-use Rattle.vme_trace.specs.declared.Fault.TheVariants.{Write}
-use Rattle.vme_trace.specs.Writing.{AppendsFront}
 use Rattle.vme_summary.specs.declared.sums.Sums.{Sums}
 use Rattle.vme_summary.specs.Tally.{Answers, answered, refused}
-use Rattle.vme_summary.specs.Sums.{total, sums_text}
 use Rattle.vme_summary.specs.Summed.{AreSumsOf, OfSums}
 use Rattle.vme_engines.specs.declared.EngineFault.TheVariants as fault
 use Rattle.vme_engines.specs.Streams.{Streams, IsInput, IsReadOut}
@@ -36,12 +32,3 @@ Adds p trace s old new (Err _) = ⊥
 abbrev pub AddsInput : Streams → Sums → Sums → Plan → Answer → Type 0
 AddsInput s old new p answer =
     (trace : List ℕ) × IsInput s.from trace × Adds p trace s old new answer
-
--- What is written of the sums: their lines, at X8 a prefix of them. The status says whether some
--- edge was refused in some trace.
-abbrev pub PrintsSums : Sums → Option (List ℕ) → Option (List ℕ) → Plan → Answer → Type 0
-PrintsSums sums old new p (Ok status) =
-    OfSums sums (λ ts. Appends old new (sums_text p ts) × (status ≡ status_with (total refused ts)))
-PrintsSums sums old new p (Err (fault.Trace f)) =
-    (f ≡ Write) × OfSums sums (λ ts. AppendsFront old new (sums_text p ts))
-PrintsSums sums old new p (Err _) = ⊥

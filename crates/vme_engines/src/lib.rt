@@ -48,7 +48,7 @@ pub use shows::show;
 pub use states::state;
 pub use summaries::summary;
 use thiserror::Error;
-pub use totals::{add_trace, print_sums};
+pub use totals::add_trace;
 use vme_scenario::ScenarioError;
 use vme_trace::Fault;
 

@@ -1,5 +1,5 @@
 //! The pieces in which a trace is read.
-ghost use Rattle.std.specs.Prelude.{◌≡◌, length, IfOk, IfErr};
+ghost use Rattle.std.specs.Prelude.{◌≡◌, ◌<◌, ◌-◌, ◌⊎◌, ◌↔◌, Some, IsTrue, length, slice_get, IfOk, IfErr};
 
 use crate::{EngineFault, PIECE};
 use std::alloc::Global;
@@ -26,6 +26,9 @@ pub(crate) fn buffer_of(alloc: Global) -> Result<Vec<u8>, EngineFault>
 
 /// Whether whoever writes the trace may wait behind a read that gave so many bytes: nothing else
 /// was waiting, or they end with a whole line.
-pub(crate) fn has_paused(buffer: &[u8], count: usize) -> bool {
-    count < buffer.len() || buffer.ends_with(b"\n")
+pub(crate) fn has_paused(buffer: &[u8], count: usize) -> bool
+    ensures paused { IsTrue result ↔ ((count < length buffer.now)
+        ⊎ (slice_get buffer.now (length buffer.now - 1) ≡ Some 10)) }
+{
+    count < buffer.len() || matches!(buffer.last(), Some(b'\n'))
 }

@@ -24,5 +24,6 @@ mod wires;
 pub use blocks::{verdict_line, write_why};
 pub use conditions::witnesses;
 pub use drivers::since;
+pub use lines::level_picked;
 pub use marks::Marks;
 pub use stands::write_stands;

@@ -3,7 +3,8 @@ ghost use Rattle.std.specs.Prelude.{◌≡◌, ◌≤◌, ◌<◌, ◌+◌, ◌+
 ghost use Rattle.vme_model.specs.declared.signals.Driver.TheVariants.{Controller};
 ghost use Rattle.vme_model.specs.declared.signals.Wire.TheVariants.{Bg, Br, Irq};
 ghost use Rattle.vme_model.specs.Signals.{has_wire};
-ghost use Rattle.vme_model.specs.History.{drive};
+ghost use Rattle.vme_model.specs.History.{drive, last_level, request_line};
+ghost use Rattle.vme_model.specs.Rules.{pick};
 ghost use Rattle.vme_model.specs.Witnesses.{seen, wire_at, holds_low, low, low_grants, requester_of, requests, granted, picked, interrupts};
 ghost use Rattle.vme_explain.specs.Traced.{OfTrace};
 ghost use Rattle.vme_explain.specs.Witnessed.{asks_at};
@@ -120,14 +121,21 @@ pub(crate) fn granted(bus: &Bus, marks: &Marks) -> Witness
     }
 }
 
+/// The level that the arbiter picks, if it picks any.
+pub fn level_picked(bus: &Bus) -> Option<u8>
+    ensures { result ≡ pick bus.now.plan.arbiter (request_line bus.now.plan bus.now.history)
+        (last_level bus.now.history) }
+{
+    let requests = bus.pins(Driver::Controller).requests;
+    AnyPolicy::from(bus.plan().arbiter()).pick(requests, bus.last_level())
+}
+
 /// The level that the policy picks.
 pub(crate) fn picked(bus: &Bus) -> Witness
     ensures { result ≡ picked bus.now }
 {
-    let requests = bus.pins(Driver::Controller).requests;
-    let policy = AnyPolicy::from(bus.plan().arbiter());
     Witness::Picks {
-        level: policy.pick(requests, bus.last_level()),
+        level: level_picked(bus),
     }
 }
 

@@ -5,6 +5,8 @@
 //! worker does not ask, all that it knows is from its last look.
 ghost use Rattle.std.specs.Prelude.{◌≡◌, ◌<◌, ◌≤◌, ◌+◌, ◌↔◌, ◌==◌, IsTrue, min};
 
+use crate::held::Held;
+use crate::seats::Rig;
 use std::sync::atomic::{AtomicBool, AtomicU32, Ordering};
 use std::sync::{Condvar, Wait};
 use std::thread::yield_now;
@@ -50,12 +52,13 @@ impl News {
         self.edges.load(Ordering::SeqCst)
     }
 
-    /// Announces how many edges the history has. It is called in the hold that made the last of
-    /// them. So a later hold never shows fewer edges than were announced, and whoever reads the
-    /// number after a hold finds the edge of that hold too.
+    /// Announces how many edges the history has. It takes what lies under the lock, so it can only
+    /// be called in a hold, and it is called in that which made the last edge. So a later hold never
+    /// shows fewer edges than were announced, and whoever reads the number after a hold finds the
+    /// edge of that hold too.
     #[inline(always)]
-    pub(crate) fn post_edges(&self, edges: u32) {
-        self.edges.store(edges, Ordering::SeqCst);
+    pub(crate) fn post_edges<L: Rig>(&self, held: &Held<'_, L>) {
+        self.edges.store(held.backplane.len(), Ordering::SeqCst);
     }
 
     /// Wakes the workers that sleep. It is called when the lock is free again, so that a worker

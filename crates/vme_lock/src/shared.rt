@@ -70,7 +70,7 @@ impl<'r, L: Rig> Shared<'r, L> {
         let mut held = self.lock.lock(rt);
         let answer = edge_in(&mut *held, seat, edge);
         if answer.is_ok() {
-            self.news.post_edges(held.backplane.len());
+            self.news.post_edges(&*held);
         }
         drop(held);
         if answer.is_ok() {

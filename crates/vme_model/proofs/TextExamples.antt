@@ -129,7 +129,7 @@ times_out_an_acknowledge : told nine_slots 13 before_times_out_an_acknowledge (f
     ++ codes "holds DS0* is low\n"
     ++ codes "    1 ds low since 9\n"
     ++ codes "holds DTACK* is high\n"
-    ++ codes "fails nobody can answer\n"
+    ++ codes "fails nobody can answer (profile)\n"
     ++ codes "    1 addr on i4 since 7\n"
     ++ codes "    9 iackout high\n"
 unfolding digits all_rules

@@ -14,7 +14,7 @@ use Rattle.vme_model.specs.declared.sentences.Rule.TheVariants.{G1, G2, G3, G4, 
 use Rattle.vme_model.specs.declared.sources.Chapter.{Chapter}
 use Rattle.vme_model.specs.declared.sources.Chapter.TheVariants.{DataTransfer, Arbitration, Interrupts}
 use Rattle.vme_model.specs.declared.sources.Reason.{Reason}
-use Rattle.vme_model.specs.declared.sources.Reason.TheVariants.{AllDrivers, ThisMoment, RoundRobinLeftOut, GrantsHighAgain, RequestGone, OwnerHasIt, NotWithdrawn, PassedOnIsLost, SeenOnItsWire, RequestOver, GrantGone, BoundedTenure, StillRequested, BlocksLeftOut, AddressOffFirst, PipeliningLeftOut, AddressOnlyLeftOut, TimeOfVersionTwo}
+use Rattle.vme_model.specs.declared.sources.Reason.TheVariants.{AllDrivers, ThisMoment, RoundRobinLeftOut, GrantsHighAgain, RequestGone, OwnerHasIt, NotWithdrawn, PassedOnIsLost, SeenOnItsWire, RequestOver, GrantGone, BoundedTenure, StillRequested, BlocksLeftOut, AddressOffFirst, PipeliningLeftOut, AddressOnlyLeftOut, TimerCountsTime, TimeOfVersionTwo}
 use Rattle.vme_model.specs.declared.sources.Source.{Source}
 use Rattle.vme_model.specs.declared.sources.Source.TheVariants.{Standard, EachCycle, LeastTime, Profile}
 use Rattle.vme_model.specs.declared.sources.Sourced.{Sourced}
@@ -42,6 +42,7 @@ reason_text BlocksLeftOut = codes "block and read-modify-write cycles are left o
 reason_text AddressOffFirst = codes "the address goes off before AS* rises"
 reason_text PipeliningLeftOut = codes "address pipelining is left out"
 reason_text AddressOnlyLeftOut = codes "address-only cycles are left out"
+reason_text TimerCountsTime = codes "the standard's bus timer counts time alone"
 reason_text TimeOfVersionTwo = codes "it stands for a time of version 2"
 
 -- a condition that a chapter asks for
@@ -63,7 +64,7 @@ profile c why = record { condition = c; source = Profile why }
 -- the conditions of the settling rules
 abbrev pub settling_sources : Rule → List Sourced
 settling_sources S1 = least_time ChainHigh Interrupts ∷ []
-settling_sources S2 = least_time NobodyCanAnswer DataTransfer ∷ []
+settling_sources S2 = profile NobodyCanAnswer TimerCountsTime ∷ []
 settling_sources S3 = profile PassedTheLastBoard TimeOfVersionTwo ∷ []
 settling_sources S4 = profile GrantsThrough TimeOfVersionTwo ∷ []
 settling_sources r = []

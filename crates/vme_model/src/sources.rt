@@ -56,6 +56,8 @@ pub enum Reason {
     PipeliningLeftOut,
     /// Address-only cycles are left out.
     AddressOnlyLeftOut,
+    /// The standard's bus timer counts time alone.
+    TimerCountsTime,
     /// It stands for a time of version 2.
     TimeOfVersionTwo,
 }
@@ -132,6 +134,7 @@ impl Reason {
             Reason::AddressOffFirst => "the address goes off before AS* rises",
             Reason::PipeliningLeftOut => "address pipelining is left out",
             Reason::AddressOnlyLeftOut => "address-only cycles are left out",
+            Reason::TimerCountsTime => "the standard's bus timer counts time alone",
             Reason::TimeOfVersionTwo => "it stands for a time of version 2",
         }
     }
@@ -288,7 +291,7 @@ impl Rule {
     {
         match self {
             Rule::S1 => &[row!(ChainHigh, LeastTime(Chapter::Interrupts))],
-            Rule::S2 => &[row!(NobodyCanAnswer, LeastTime(Chapter::DataTransfer))],
+            Rule::S2 => &[row!(NobodyCanAnswer, Profile(Reason::TimerCountsTime))],
             Rule::S3 => &[row!(PassedTheLastBoard, Profile(Reason::TimeOfVersionTwo))],
             Rule::S4 => &[row!(GrantsThrough, Profile(Reason::TimeOfVersionTwo))],
             _ => &[],

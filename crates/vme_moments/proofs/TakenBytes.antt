@@ -1,31 +1,47 @@
 -- A reader of moments takes bytes.
-use Rattle.std.proofs.Common.{◌≡◌, inl, inr, ◌<◌, ◌≤◌, ◌+◌, ◌++◌, ◌∷◌, [], ℕ, true, false, List, Option, Some, None, Result, Ok, Err, is_some, length, option_map, refl, sym, ◌∙◌, ap, subst, arith, add-one, append_assoc, drop, get_or, suc, take, zero}
+use Rattle.std.proofs.Common.{◌≡◌, inl, inr, ◌<◌, ◌≤◌, ◌+◌, ◌++◌, ◌∷◌, [], ℕ, true, false, List, Option, Some, None, Result, Ok, Err, is_some, length, option_map, refl, sym, ◌∙◌, ap, subst, arith, add-one, append_assoc, append-nil, drop, get_or, suc, take, zero}
 use Rattle.std.proofs.lemmas.List.{take_all, take_more}
 use Rattle.vme_model.specs.declared.signals.Version.{Version}
-use Rattle.vme_model.specs.Text.{split_lines, next_number, version_of}
+use Rattle.vme_model.specs.Text.{cut_off, next_number, no_edge, no_header, split_lines, too_long, version_of}
 use Rattle.vme_trace.specs.Reading.{IsPart}
 use Rattle.vme_trace.specs.declared.Fault.TheVariants as trace
 use Rattle.vme_moments.specs.declared.Seen.{Seen}
 use Rattle.vme_moments.specs.declared.MomentsFault.{MomentsFault}
-use Rattle.vme_moments.specs.declared.MomentsFault.TheVariants.{Trace, Earlier, TooMany}
+use Rattle.vme_moments.specs.declared.MomentsFault.TheVariants.{Trace, Earlier, Momentless, TooMany}
 use Rattle.vme_moments.specs.declared.reader.Reader.{Reader}
 use Rattle.vme_moments.specs.Moments.{Reading, Said, line_says, read_seen, seen_limit, too_many}
 use Rattle.vme_moments.specs.Moments as said
-use Rattle.vme_moments.specs.Reading.{fault_of}
-use Rattle.vme_moments.specs.Taking.{IsFault, IsSound, Says, Takes, rest_of}
+use Rattle.vme_moments.specs.Reading.{LacksRoom, fault_of}
+use Rattle.vme_moments.specs.Taking.{IsFault, IsSound, KeepsStart, Says, Takes, rest_of}
 use Rattle.vme_trace.proofs.Lines.{IsOneLine-append, no_bytes}
 use Rattle.vme_trace.specs.Reading.{IsOneLine}
 use Rattle.vme_moments.proofs.ReaderSteps.{line_step, said_step, fault_step, many_step, header_step, header_missed, long_step, end_cut, end_absent, end_whole}
 
 -- nothing was taken yet
 pub taken_none : (r : Reader) → IsSound r → Takes r [] r (Ok tt)
-taken_none r sound = (sound, λ more. refl)
+taken_none r sound = (sound, λ more. refl, λ none. (none, sym (append-nil r.part.items)))
 
 -- first these bytes, and then those
 pub taken_more : (old mid new : Reader) (a b : List ℕ) → Takes old a mid (Ok tt)
     → Takes mid b new (Ok tt) → Takes old (a ++ b) new (Ok tt)
-taken_more old mid new a b first then =
-    (then.0, λ more. ap (λ l. rest_of old l) (append_assoc a b more) ∙ first.1 (b ++ more) ∙ then.1 more)
+taken_more old mid new a b first then = (
+  then.0,
+  λ more. ap (λ l. rest_of old l) (append_assoc a b more) ∙ first.1 (b ++ more) ∙ then.1 more,
+  λ none.
+      let last = then.2 none in
+      let before = first.2 last.0 in (
+        before.0,
+        last.1 ∙ ap (λ l. l ++ b) before.1 ∙ append_assoc old.part.items a b,
+      ),
+)
+
+-- a reader behind the header line
+pub start_over : (old new : Reader) (bytes : List ℕ) (v : Version) → new.version ≡ Some v
+    → KeepsStart old bytes new
+start_over old new bytes v named none = absurd (some_none v (sym named ∙ none))
+  where
+    some_none : (v : Version) → (let o : Option Version = Some v in o ≡ None) → ⊥
+    some_none v h = cc
 
 -- a reader whose part has one byte more says the same of what is left
 pub byte_taken : (old new : Reader) (b : ℕ) → new.version ≡ old.version → new.line ≡ old.line
@@ -35,9 +51,18 @@ pub byte_taken : (old new : Reader) (b : ℕ) → new.version ≡ old.version �
 byte_taken old new b version line last seen part more =
     rw (version, line, last, seen, part, append_assoc old.part.items (b ∷ []) more) refl
 
+no_memory : (g : said.MomentsFault) → fault_of g ≡ Trace trace.Memory → ⊥
+no_memory (said.of_trace no_header) h = cc
+no_memory (said.of_trace (no_edge n)) h = cc
+no_memory (said.of_trace (too_long n)) h = cc
+no_memory (said.of_trace cut_off) h = cc
+no_memory (said.earlier n) h = cc
+no_memory (said.momentless n) h = cc
+no_memory said.too_many h = cc
+
 fault_known : (r : Reading) (g : said.MomentsFault) (f : MomentsFault) → r.fault ≡ Some g
     → fault_of g ≡ f → IsFault r f
-fault_known r g (Trace trace.Memory) is same = tt
+fault_known r g (Trace trace.Memory) is same = absurd (no_memory g same)
 fault_known r g (Trace trace.Header) is same = ap (λ o. option_map fault_of o) is ∙ ap (λ x. Some x) same
 fault_known r g (Trace (trace.Line n)) is same = ap (λ o. option_map fault_of o) is ∙ ap (λ x. Some x) same
 fault_known r g (Trace (trace.TooLong n)) is same = ap (λ o. option_map fault_of o) is ∙ ap (λ x. Some x) same
@@ -46,6 +71,7 @@ fault_known r g (Trace trace.Read) is same = ap (λ o. option_map fault_of o) is
 fault_known r g (Trace trace.Failed) is same = ap (λ o. option_map fault_of o) is ∙ ap (λ x. Some x) same
 fault_known r g (Trace trace.Write) is same = ap (λ o. option_map fault_of o) is ∙ ap (λ x. Some x) same
 fault_known r g (Earlier n) is same = ap (λ o. option_map fault_of o) is ∙ ap (λ x. Some x) same
+fault_known r g (Momentless n) is same = ap (λ o. option_map fault_of o) is ∙ ap (λ x. Some x) same
 fault_known r g TooMany is same = ap (λ o. option_map fault_of o) is ∙ ap (λ x. Some x) same
 
 pub is_fault : (r : Reading) (g : said.MomentsFault) → r.fault ≡ Some g → IsFault r (fault_of g)
@@ -82,6 +108,23 @@ line_many old v s named part full some says more =
     (line_step v old.line old.last old.seen.items old.part.items more part)
     ∙ rw says (many_step v old.seen.items s
     (λ m. read_seen (next_number old.line) m (split_lines more).0 (split_lines more).1) full some))
+
+-- a line behind the header has an edge for which there is no room
+line_lacking : (old : Reader) (v : Version) (s : Said) → old.version ≡ Some v
+    → IsPart old.part.items → length old.seen.items < seen_limit → 0 < length s.seen
+    → line_says old.line old.last old.part.items ≡ Ok s → (more : List ℕ)
+    → LacksRoom (rest_of old (10 ∷ more)).seen
+line_lacking old v s named part few some says more =
+    rw named (subst (λ (r : Reading). LacksRoom r.seen)
+    (sym (line_step v old.line old.last old.seen.items old.part.items more part))
+    (rw says (lacks old.seen.items s.seen
+    (read_seen (next_number old.line) s.last (split_lines more).0 (split_lines more).1).0 few some)))
+  where
+    lacks : (kept seen others : List Seen) → length kept < seen_limit → 0 < length seen
+        → LacksRoom (kept ++ (seen ++ others))
+    lacks kept [] others few some = absurd (omega arith)
+    lacks kept (next ∷ seen) others few some =
+        record { kept = kept; next = next; others = seen ++ others; are = refl; few = few }
 
 -- ---- the header line
 
@@ -141,12 +184,13 @@ some_version (Some v) h = (v, refl)
 other_at : (old new : Reader) (v : Version) (r : Result Said said.MomentsFault) (f : MomentsFault)
     → IsSound old → old.version ≡ Some v → line_says old.line old.last old.part.items ≡ r
     → Says r old new (Err f) → (more : List ℕ) → IsFault (rest_of old (10 ∷ more)) f
-other_at old new v (Ok s) f sound named is (inl none) more =
-    subst (λ (g : MomentsFault). IsFault (rest_of old (10 ∷ more)) g) (sym none) tt
-other_at old new v (Ok s) f sound named is (inr many) more =
+other_at old new v (Ok s) f sound named is (some, inl lacks) more =
+    subst (λ (g : MomentsFault). IsFault (rest_of old (10 ∷ more)) g) (sym lacks.0)
+    (line_lacking old v s named sound.part lacks.1 some is more)
+other_at old new v (Ok s) f sound named is (some, inr many) more =
     subst (λ (g : MomentsFault). IsFault (rest_of old (10 ∷ more)) g) (sym many.0)
     (is_fault (rest_of old (10 ∷ more)) too_many
-    (line_many old v s named sound.part many.1 many.2 is more))
+    (line_many old v s named sound.part many.1 some is more))
 other_at old new v (Err g) f sound named is same more =
     subst (λ (h : MomentsFault). IsFault (rest_of old (10 ∷ more)) h) same
     (is_fault (rest_of old (10 ∷ more)) g (line_faulty old v g named sound.part sound.few is more))
@@ -169,6 +213,7 @@ other_on old mid new v (Ok s) sound named is says empty version line last seen =
           (subst (λ (l : List Seen). length l ≤ seen_limit) (sym seen) (says.few sound.few)),
       λ more. line_taken old new v s named sound.part is name
           (line ∙ ap next_number says.line) empty (last ∙ says.last) (seen ∙ says.seen) more,
+      start_over old new (10 ∷ []) v name,
     )
 other_on old mid new v (Err g) sound named is says empty version line last seen = absurd says
 

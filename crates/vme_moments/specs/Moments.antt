@@ -19,10 +19,11 @@ abbrev pub moment_of : List ℕ → Option ℕ
 moment_of [] = None
 moment_of (b ∷ digits) = if b == 64 then number_of digits else None
 
--- why moments cannot be read: as a trace, or with the number of the line, X10, or F6
+-- why moments cannot be read: as a trace, or with the number of the line, X10 or X17, or F6
 pub data MomentsFault : Type 0 where
   of_trace : TextFault → MomentsFault
   earlier : ℕ → MomentsFault
+  momentless : ℕ → MomentsFault
   too_many : MomentsFault
 
 -- the last moment after a line, and what was seen in it
@@ -36,11 +37,12 @@ at_moment n None m = Ok (record { last = Some m; seen = [] })
 at_moment n (Some last) m =
     if nat_lt m last then Err (earlier n) else Ok (record { last = Some m; seen = [] })
 
--- the n-th line is an edge, if it spells one, below a moment, if there was one
+-- the n-th line is an edge, if it spells one; one without a moment above it is a fault of its own
 abbrev pub at_edge : ℕ → Option ℕ → Option Edge → Result Said MomentsFault
 at_edge n (Some m) (Some e) =
     Ok (record { last = Some m; seen = record { edge = e; moment = m; line = n } ∷ [] })
-at_edge n _ _ = Err (of_trace (no_edge n))
+at_edge n None (Some e) = Err (momentless n)
+at_edge n _ None = Err (of_trace (no_edge n))
 
 abbrev pub at_either : ℕ → Option ℕ → Option ℕ → Option Edge → Result Said MomentsFault
 at_either n last (Some m) e = at_moment n last m

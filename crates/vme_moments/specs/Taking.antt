@@ -11,7 +11,7 @@ use Rattle.vme_moments.specs.declared.reader.Moments.{Moments}
 use Rattle.vme_moments.specs.declared.reader.Reader.{Reader}
 use Rattle.vme_moments.specs.Moments.{Reading, Said, behind_header, read_from_header, read_seen, seen_limit}
 use Rattle.vme_moments.specs.Moments as said
-use Rattle.vme_moments.specs.Reading.{fault_of}
+use Rattle.vme_moments.specs.Reading.{LacksRoom, fault_of}
 
 -- a reader between two bytes: no fault stands in what it has read
 pub record IsSound (r : Reader) : Type 0 where
@@ -38,9 +38,9 @@ abbrev pub rest_of : Reader → List ℕ → Reading
 rest_of r bytes =
     rest_at r.version r.line r.last r.seen.items (split_lines (r.part.items ++ bytes))
 
--- the first fault of a text; there may be no memory before it
+-- the first fault of a text, or X6 at an edge before it
 abbrev pub IsFault : Reading → MomentsFault → Type 0
-IsFault r (Trace trace.Memory) = Unit {0}
+IsFault r (Trace trace.Memory) = LacksRoom r.seen
 IsFault r f = option_map fault_of r.fault ≡ Some f
 
 -- A reader takes the line that stands in its part, which says this.
@@ -52,10 +52,11 @@ pub record SaysOn (s : Said) (old new : Reader) : Type 0 where
   pub seen : new.seen.items ≡ old.seen.items ++ s.seen
   pub few : length old.seen.items ≤ seen_limit → length new.seen.items ≤ seen_limit
 
--- there is no room for what the line says
+-- there is no room for the edge that the line says
 abbrev pub HasNoRoom : Said → Reader → MomentsFault → Type 0
-HasNoRoom s old f = (f ≡ Trace trace.Memory)
-    ⊎ ((f ≡ TooMany) × (seen_limit ≤ length old.seen.items) × (0 < length s.seen))
+HasNoRoom s old f = (0 < length s.seen)
+    × (((f ≡ Trace trace.Memory) × (length old.seen.items < seen_limit))
+    ⊎ ((f ≡ TooMany) × (seen_limit ≤ length old.seen.items)))
 
 abbrev pub Says :
     Result Said said.MomentsFault → Reader → Reader → Result (Unit {0}) MomentsFault → Type 0
@@ -64,10 +65,16 @@ Says (Ok s) old new (Err f) = HasNoRoom s old f
 Says (Err g) old new (Ok _) = ⊥
 Says (Err g) old new (Err f) = fault_of g ≡ f
 
+-- before the header line all bytes are kept
+abbrev pub KeepsStart : Reader → List ℕ → Reader → Type 0
+KeepsStart old bytes new =
+    new.version ≡ None → (old.version ≡ None) × (new.part.items ≡ old.part.items ++ bytes)
+
 -- A reader takes these bytes.
 abbrev pub Takes : Reader → List ℕ → Reader → Result (Unit {0}) MomentsFault → Type 0
 Takes old bytes new (Ok _) =
     IsSound new × ((more : List ℕ) → rest_of old (bytes ++ more) ≡ rest_of new more)
+    × KeepsStart old bytes new
 Takes old bytes new (Err f) = (more : List ℕ) → IsFault (rest_of old (bytes ++ more)) f
 
 -- a text that says this ends so

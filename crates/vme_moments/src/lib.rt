@@ -39,6 +39,9 @@ pub enum MomentsFault {
     /// X10: the moment of the n-th line, counted from 1, is below the last moment before it.
     #[error("X10 line {n} is of an earlier moment")]
     Earlier { n: u64 },
+    /// X17: the n-th line is an edge, and no moment stands above it.
+    #[error("X17 line {n} stands before the first moment")]
+    Momentless { n: u64 },
     /// F6: there are more than 1,048,576 edges.
     #[error("F6 more than 1048576 edges")]
     TooMany,

@@ -3,7 +3,8 @@ ghost use Rattle.std.specs.Prelude.{◌≡◌, ◌≤◌, ◌∷◌, [], ℕ, Li
 ghost use Rattle.vme_model.specs.Signals.{is_well_formed};
 ghost use Rattle.vme_model.specs.Text.{edge_of, next_number};
 ghost use Rattle.vme_trace.specs.Reading.{IsPart};
-ghost use Rattle.vme_moments.specs.Moments.{at_edge, at_moment, line_says, read_of, seen_limit};
+ghost use Rattle.vme_moments.specs.Consumed.{FeedsAll, IsNew};
+ghost use Rattle.vme_moments.specs.Moments.{at_edge, at_moment, line_says, seen_limit};
 ghost use Rattle.vme_moments.specs.Orders.{AreInOrder};
 ghost use Rattle.vme_moments.specs.Reading.{ReadsMoments};
 ghost use Rattle.vme_moments.specs.Taking.{Ends, IsSound, Says, Takes, rest_of};
@@ -46,8 +47,7 @@ struct Reader {
 impl Reader {
     /// Before the first byte.
     fn new(alloc: Global) -> Reader
-        ensures sound { IsSound result }
-        ensures rest { (more : List ℕ) → rest_of result more ≡ read_of more }
+        ensures { IsNew result }
     {
         Reader {
             version: None,
@@ -80,7 +80,7 @@ impl Reader {
             return Err(MomentsFault::Trace(Fault::Line { n: self.line }));
         };
         let Some(moment) = self.last else {
-            return Err(MomentsFault::Trace(Fault::Line { n: self.line }));
+            return Err(MomentsFault::Momentless { n: self.line });
         };
         if self.seen.len() >= SEEN_LIMIT {
             return Err(MomentsFault::TooMany);
@@ -188,30 +188,43 @@ impl Reader {
     }
 }
 
-/// Reads moments to their end.
-fn read_all<R: Read>(alloc: Global, input: &mut R) -> Result<Moments, MomentsFault>
-    ensures { ReadsMoments (R.remaining input.old) (R.remaining input.new) result }
+/// Feeds the input to a new reader. The result is whether it was read to its end. Otherwise it was
+/// read as often as moments may be.
+fn feed_all<R: Read>(reader: &mut Reader, input: &mut R) -> Result<bool, MomentsFault>
+    requires { IsNew reader.old }
+    ensures { FeedsAll (R.remaining input.old) (R.remaining input.new) reader.new result }
 {
-    let mut reader = Reader::new(alloc);
     let mut buffer = [0u8; 512];
-    'reads: for _ in 0..READS {
+    'reads: for done in 0..READS {
         let count = match read_piece(input, &mut buffer) {
             Ok(count) => count,
             Err(fault) => return Err(MomentsFault::Trace(fault)),
         };
         if count == 0 {
-            return reader.finish();
+            return Ok(true);
         }
         reader.feed(&buffer[..count])?;
     }
-    Err(MomentsFault::Trace(Fault::Read))
+    Ok(false)
+}
+
+/// Reads moments to their end.
+fn read_all<R: Read>(alloc: Global, input: &mut R) -> Result<Moments, MomentsFault>
+    ensures { ReadsMoments (R.remaining input.old) (R.remaining input.new) result }
+{
+    let mut reader = Reader::new(alloc);
+    if feed_all(&mut reader, input)? {
+        reader.finish()
+    } else {
+        Err(MomentsFault::Trace(Fault::Read))
+    }
 }
 
 /// Reads moments to their end. Their edges stand in the order of their lines, so their moments do
 /// not fall. docs/TRACES.md describes the text.
 ///
 /// # Errors
-/// The first fault of the text, which is X1 to X4, X10 or F6. X5 if a read failed, or after
+/// The first fault of the text, which is X1 to X4, X10, X17 or F6. X5 if a read failed, or after
 /// 16,777,216 reads. X6 if memory runs out.
 pub fn read_moments<R: Read>(alloc: Global, input: &mut R) -> Result<Moments, MomentsFault>
     ensures reads { ReadsMoments (R.remaining input.old) (R.remaining input.new) result }

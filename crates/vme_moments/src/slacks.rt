@@ -47,7 +47,8 @@ impl Slacks {
 
     /// The greatest slack of all drivers.
     pub fn greatest(&self) -> u64
-        ensures { (d : DriverValue) → slack_of self.now d ≤ result }
+        ensures all { (d : DriverValue) → slack_of self.now d ≤ result }
+        ensures some { (d : DriverValue) × IsKnown d × (slack_of self.now d ≡ result) }
     {
         let mut greatest = self.controller;
         for slack in &self.boards {

@@ -10,6 +10,8 @@ use Rattle.vme_moments.specs.declared.Seen.{Seen}
 use Rattle.vme_moments.specs.declared.reader.Moments.{Moments}
 use Rattle.vme_moments.specs.declared.slacks.Slacks.{Slacks}
 use Rattle.vme_moments.specs.Orders.{AreNext, IsLongest}
+use Rattle.vme_moments.specs.declared.MomentsFault.{MomentsFault}
+use Rattle.vme_moments.specs.declared.MomentsFault.TheVariants.{Trace, Earlier, Momentless, TooMany}
 use Rattle.vme_moments.specs.Reading as moments
 use Rattle.vme_order_search.specs.TooMany.{HasTooMany}
 use Rattle.vme_order_search.specs.declared.OrderFault.{OrderFault}
@@ -34,6 +36,35 @@ same_input (Some all) bytes h = h
 pub input_left : (from : Option (List ℕ)) → IsInput from (unwrap_or from [])
 input_left None = tt
 input_left (Some all) = refl
+
+-- ---- moments that were not read
+
+-- a fault was met, or a read failed
+pub not_read : (form : Form) (x : Slacks) (p : Plan) (s : Streams) (f : MomentsFault)
+    → NamesBoards x p → moments.ReadsMoments s.from s.to (Err f) → WroteNothing s
+    → OrdersInput form x s p (Err (fault.Moments f))
+not_read form x p s (Trace trace.Read) named read nothing =
+    (unwrap_or s.from [], input_left s.from, (named, read.0, read.1, read.2, nothing))
+not_read form x p s (Trace trace.Header) named read nothing =
+    (read.0, same_input s.from read.0 read.1, (named, read.2, nothing))
+not_read form x p s (Trace (trace.Line n)) named read nothing =
+    (read.0, same_input s.from read.0 read.1, (named, read.2, nothing))
+not_read form x p s (Trace (trace.TooLong n)) named read nothing =
+    (read.0, same_input s.from read.0 read.1, (named, read.2, nothing))
+not_read form x p s (Trace trace.CutOff) named read nothing =
+    (read.0, same_input s.from read.0 read.1, (named, read.2, nothing))
+not_read form x p s (Trace trace.Memory) named read nothing =
+    (read.0, same_input s.from read.0 read.1, (named, read.2, nothing))
+not_read form x p s (Trace trace.Failed) named read nothing =
+    (read.0, same_input s.from read.0 read.1, (named, read.2, nothing))
+not_read form x p s (Trace trace.Write) named read nothing =
+    (read.0, same_input s.from read.0 read.1, (named, read.2, nothing))
+not_read form x p s (Earlier n) named read nothing =
+    (read.0, same_input s.from read.0 read.1, (named, read.2, nothing))
+not_read form x p s (Momentless n) named read nothing =
+    (read.0, same_input s.from read.0 read.1, (named, read.2, nothing))
+not_read form x p s TooMany named read nothing =
+    (read.0, same_input s.from read.0 read.1, (named, read.2, nothing))
 
 -- ---- moments that were read
 
@@ -82,7 +113,7 @@ module _ (form : Form) (x : Slacks) (p : Plan) (named : NamesBoards x p) (s : St
 
       -- it could not be written
       pub cut_off : (f : Fault) → f ≡ trace.Write
-          → WroteFront s (found_text form m.version m.seen.items order next)
+          → WroteFront s (found_text form m.version p m.seen.items order next)
           → OrdersInput form x s p (Err (fault.Engine (engine.Trace f)))
       unfolding finds
       cut_off f is w =
@@ -92,14 +123,14 @@ module _ (form : Form) (x : Slacks) (p : Plan) (named : NamesBoards x p) (s : St
             (
               named,
               finds,
-              subst (λ (ss : List Seen). WroteFront s (found_text form m.version ss order next))
+              subst (λ (ss : List Seen). WroteFront s (found_text form m.version p ss order next))
                   (sym said.seen) w,
             ),
           )
 
       -- it was written
       pub written : (status : Status) → IsAtEnd s.to
-          → Wrote s (found_text form m.version m.seen.items order next)
+          → Wrote s (found_text form m.version p m.seen.items order next)
           → status ≡ status_of m.seen.items order → OrdersInput form x s p (Ok status)
       unfolding finds
       written status end w is = (
@@ -109,7 +140,7 @@ module _ (form : Form) (x : Slacks) (p : Plan) (named : NamesBoards x p) (s : St
           named,
           finds,
           end,
-          subst (λ (ss : List Seen). Wrote s (found_text form m.version ss order next))
+          subst (λ (ss : List Seen). Wrote s (found_text form m.version p ss order next))
               (sym said.seen) w,
           subst (λ (ss : List Seen). status ≡ status_of ss order) (sym said.seen) is,
         ),

@@ -11,6 +11,7 @@ use crate::lines::{write_edges, write_head};
 use crate::{Form, OrderingFault};
 use std::alloc::Global;
 use std::io::{Read, Write};
+use vme_bus::Bus;
 use vme_engines::{EngineFault, Status, plan_of};
 use vme_model::Driver;
 use vme_moments::{Moments, MomentsFault, Slacks, read_moments};
@@ -77,45 +78,53 @@ fn status_of(moments: &Moments, found: &Found) -> Status
     }
 }
 
-/// Writes what was found.
+/// Writes what was found on a plan.
 ///
 /// # Errors
 /// X8 if that failed; a prefix of the text was written then.
-fn write<W: Write>(form: Form, moments: &Moments, found: &Found, out: &mut W) -> Result<(), Fault>
+fn write<W: Write>(
+    form: Form,
+    plan: Plan,
+    moments: &Moments,
+    found: &Found,
+    out: &mut W,
+) -> Result<(), Fault>
     requires formed { All (λ s. IsTrue (is_well_formed s.edge)) moments.now.seen.items }
     requires order { All (λ p. p < length moments.now.seen.items) found.now.order.items }
     requires next { All (λ p. p < length moments.now.seen.items) found.now.next.items }
     ensures ok { OnOk result (Appends (W.contents out.old) (W.contents out.new)
-        (found_text form moments.now.version moments.now.seen.items
+        (found_text form moments.now.version plan moments.now.seen.items
         found.now.order.items found.now.next.items)) }
     ensures front { OnErr result (AppendsFront (W.contents out.old) (W.contents out.new)
-        (found_text form moments.now.version moments.now.seen.items
+        (found_text form moments.now.version plan moments.now.seen.items
         found.now.order.items found.now.next.items)) }
     ensures fault { IfErr result (λ fault. fault ≡ Fault.Write) }
 {
+    let bus = &mut Bus::new(plan, moments.version);
+    let made = found.order.len();
     write_head(form, moments.version, out)?;
-    write_edges(form, 0, &moments.seen, &found.order, out)?;
-    write_edges(form, found.order.len(), &moments.seen, &found.next, out)?;
+    write_edges(form, bus, 0, &moments.seen, &found.order, out)?;
+    write_edges(form, bus, made, &moments.seen, &found.next, out)?;
     flush(out)
 }
 
 /// Finds the first order of the edges that the rules allow, on a plan, and writes it.
 fn order_on<R: Read, W: Write>(
     alloc: Global,
-    plan: &Plan,
+    plan: Plan,
     moments: &mut R,
     slacks: &Slacks,
     form: Form,
     out: &mut W,
 ) -> Result<Status, OrderingFault>
-    requires { NamesBoards slacks.now plan.now }
+    requires { NamesBoards slacks.now plan }
     ensures { OrdersInput form slacks.now
         (streams (R.remaining moments.old) (R.remaining moments.new)
-        (W.contents out.old) (W.contents out.new)) plan.now result }
+        (W.contents out.old) (W.contents out.new)) plan result }
 {
     let moments = read_moments(alloc, moments)?;
-    let found = longest(alloc, plan, moments.version, &moments.seen, slacks)?;
-    write(form, &moments, &found, out)?;
+    let found = longest(alloc, &plan, moments.version, &moments.seen, slacks)?;
+    write(form, plan, &moments, &found, out)?;
     Ok(status_of(&moments, &found))
 }
 
@@ -147,5 +156,5 @@ pub fn order<R: Read, W: Write>(
     if let Some(slot) = first_empty(&plan, slacks) {
         return Err(OrderingFault::NoBoard(slot));
     }
-    order_on(alloc, &plan, moments, slacks, form, out)
+    order_on(alloc, plan, moments, slacks, form, out)
 }

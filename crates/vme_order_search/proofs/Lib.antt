@@ -22,3 +22,5 @@ pub mod Searched
 pub mod Outcomes
 -- what `==` says of sets and of kinds: `layers::Layer::find`
 pub mod SameKinds
+-- a layer with one beginning, whose way is made anew: `trails::Trail::alone`, `search::Search::drop_others`
+pub mod Alone

@@ -1,6 +1,6 @@
 -- Which places can come next.
 use Rattle.std.proofs.Common.{◌≡◌, ◌⊎◌, inl, inr, ◌<◌, ◌≤◌, ◌+◌, ◌++◌, ◌||◌, ◌&&◌, ℕ, zero, suc, Bool, true, false}
-use Rattle.std.proofs.Common.{All, List, [], ◌∷◌, Some, length, refl, sym, ◌∙◌, subst, ap, arith}
+use Rattle.std.proofs.Common.{All, List, [], ◌∷◌, Option, Some, None, length, refl, sym, ◌∙◌, subst, ap, arith}
 use Rattle.std.proofs.Common.{nat_lt, get_or}
 use Rattle.std.specs.Prelude.{◌==◌, ◌-◌}
 use Rattle.std.specs.List.{slice_get}
@@ -15,7 +15,7 @@ use Rattle.vme_moments.specs.Before.{before, is_same_part, is_timely, part_of, s
 use Rattle.vme_moments.specs.Orders.{AreInOrder, AreNext, IsAscending, IsFree, came_before, has}
 use Rattle.vme_moments.proofs.Earlier.{TwoSeen, two_seen}
 use Rattle.vme_order_search.specs.declared.taken.Taken.{Taken}
-use Rattle.vme_order_search.specs.Places.{AreTaken, AreUnfree, holds}
+use Rattle.vme_order_search.specs.Places.{AreTaken, AreUnfree, holds, is_far}
 use Rattle.vme_order_search.proofs.Lists.{one_there}
 use Rattle.vme_order_search.proofs.Sets.{at_least, below_least}
 
@@ -108,24 +108,67 @@ later_moment ms i j a b order is other (inr h) le =
     let e : a.moment ≡ b.moment = ap (λ (s : Seen). s.moment) same in omega arith
 
 -- no slack reaches back to the least place that is missing from that place on
-pub out_of_reach : (x : Slacks) (ms : List Seen) (places : List ℕ) (t : Taken) (least place most : ℕ)
-    (d e : Seen) → AreInOrder ms → AreTaken places t → t.least ≡ least → least < place
-    → place < length ms → ((r : Driver) → slack_of x r ≤ most)
-    → (get_or ms least d).moment + most < (get_or ms place e).moment
-    → AreUnfree x ms places place (length ms)
-out_of_reach x ms places t least place most d e order takes is lt within all far j le low free =
-    let a = get_or ms least d in
-    let b = get_or ms place e in
-    let c = get_or ms j e in
-    let a_is : slice_get ms least ≡ Some a = slice_get-get_or ms least d (omega arith) in
-    let b_is : slice_get ms place ≡ Some b = slice_get-get_or ms place e within in
-    let c_is : slice_get ms j ≡ Some c = slice_get-get_or ms j e low in
+out_of_reach : (x : Slacks) (ms : List Seen) (places : List ℕ) (t : Taken) (place most : ℕ)
+    (a b : Seen) → AreInOrder ms → AreTaken places t → slice_get ms t.least ≡ Some a
+    → slice_get ms place ≡ Some b → ((r : Driver) → slack_of x r ≤ most)
+    → a.moment + most < b.moment → AreUnfree x ms places place (length ms)
+out_of_reach x ms places t place most a b order takes a_is b_is all far j le low free =
+    let c = get_or ms j b in
+    let c_is : slice_get ms j ≡ Some c = slice_get-get_or ms j b low in
     let later : b.moment ≤ c.moment = later_moment ms place j b c order b_is c_is (cases_lt place j) le in
     let slack : slack_of x c.edge.driver ≤ most = all c.edge.driver in
-    waits_unfree x ms places t least j takes (at_least t least (sym is))
-    (sym (came_before_at x ms least j a c a_is c_is)
+    waits_unfree x ms places t t.least j takes (at_least t t.least refl)
+    (sym (came_before_at x ms t.least j a c a_is c_is)
     ∙ timely x a c (let far_enough : a.moment + slack_of x c.edge.driver < c.moment = omega arith in far_enough))
     free
+
+-- nor does the greatest slack, if the place is far
+pub far_unfree : (x : Slacks) (ms : List Seen) (places : List ℕ) (t : Taken) (place most : ℕ)
+    → AreInOrder ms → AreTaken places t → ((r : Driver) → slack_of x r ≤ most)
+    → is_far ms most t.least place ≡ true → AreUnfree x ms places place (length ms)
+far_unfree x ms places t place most order takes all far =
+    by (slice_get ms t.least) (slice_get ms place) refl refl (behind (nat_lt t.least place) _ far)
+  where
+    behind : (c d : Bool) → (c && d) ≡ true → d ≡ true
+    behind true d h = h
+    behind false d h = absurd (true_false (sym h))
+
+    by : (o p : Option Seen) → slice_get ms t.least ≡ o → slice_get ms place ≡ p
+        → option_map_or (λ a. option_map_or (λ b. is_timely a.moment most b.moment) p false) o false ≡ true
+        → AreUnfree x ms places place (length ms)
+    by None p a_is b_is test = absurd (true_false (sym test))
+    by (Some a) None a_is b_is test = absurd (true_false (sym test))
+    by (Some a) (Some b) a_is b_is test =
+        out_of_reach x ms places t place most a b order takes a_is b_is all
+        (let lt : a.moment + most < b.moment = grind (arith, nat_tests) in lt)
+
+same_test : (a b reach between : ℕ) → between ≡ b - a
+    → (reach < between) ⊎ (between ≤ reach) → nat_lt reach between ≡ nat_lt (a + reach) b
+same_test a b reach between is (inl lt) =
+    let far : a + reach < b = omega arith in
+    let one : nat_lt reach between ≡ true = grind (arith, nat_tests) in
+    let other : nat_lt (a + reach) b ≡ true = grind (arith, nat_tests) in one ∙ sym other
+same_test a b reach between is (inr le) =
+    let near : b ≤ a + reach = omega arith in
+    let one : nat_lt reach between ≡ false = grind (arith, nat_tests) in
+    let other : nat_lt (a + reach) b ≡ false = grind (arith, nat_tests) in one ∙ sym other
+
+-- the same, by the difference of the moments
+pub far_test : (ms : List Seen) (reach least place between : ℕ) (d e : Seen) → least < place
+    → place < length ms → between ≡ (get_or ms place e).moment - (get_or ms least d).moment
+    → nat_lt reach between ≡ is_far ms reach least place
+far_test ms reach least place between d e lt within is =
+    let a = get_or ms least d in
+    let b = get_or ms place e in
+    let a_is : slice_get ms least ≡ Some a = slice_get-get_or ms least d (omega arith) in
+    let b_is : slice_get ms place ≡ Some b = slice_get-get_or ms place e within in
+    let first : nat_lt least place ≡ true = grind (arith, nat_tests) in
+    rw (first, a_is, b_is) (same_test a.moment b.moment reach between is (cases_lt reach between))
+
+pub near_test : (ms : List Seen) (reach least place : ℕ) → place ≤ least
+    → nat_lt least place ≡ is_far ms reach least place
+near_test ms reach least place le =
+    let first : nat_lt least place ≡ false = grind (arith, nat_tests) in rw first refl
 
 -- ---- places in order
 
@@ -232,16 +275,6 @@ unfree_on x ms places from place first rest j le lt free =
     by : (j < place) ⊎ (place ≤ j) → ⊥
     by (inl low) = first j le low free
     by (inr high) = rest j high lt free
-
--- the same, by the difference of the moments
-pub reach_ends : (x : Slacks) (ms : List Seen) (places : List ℕ) (t : Taken)
-    (least place most between : ℕ) (d e : Seen) → AreInOrder ms → AreTaken places t → t.least ≡ least
-    → least < place → place < length ms → ((r : Driver) → slack_of x r ≤ most)
-    → between ≡ (get_or ms place e).moment - (get_or ms least d).moment
-    → nat_lt most between ≡ true → AreUnfree x ms places place (length ms)
-reach_ends x ms places t least place most between d e order takes is lt within all is_between test =
-    let less : most < between = grind (arith, nat_tests) in
-    out_of_reach x ms places t least place most d e order takes is lt within all (omega arith)
 
 pub all_one : (P : ℕ → Type 0) (x : ℕ) → P x → All P (x ∷ [])
 all_one P x p zero d lt = p

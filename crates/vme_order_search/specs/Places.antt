@@ -1,8 +1,11 @@
 -- Sets of places.
-use Rattle.std.specs.Prelude.{◌≡◌, ◌==◌, ◌||◌, ◌&&◌, ◌+◌, ◌-◌, ◌*◌, ◌/◌, ◌%◌, ◌^◌, ◌<◌, ◌≤◌, ℕ, Bool, List, length, nat_lt, Option, Some, None}
+use Rattle.std.specs.Prelude.{◌≡◌, ◌==◌, ◌||◌, ◌&&◌, ◌+◌, ◌-◌, ◌*◌, ◌/◌, ◌%◌, ◌^◌, ◌<◌, ◌≤◌, ℕ, Bool, false, List, length, nat_lt, Option, Some, None}
 use Rattle.std.specs.Int.{bit_at}
 use Rattle.vme_moments.specs.declared.Seen.{Seen}
 use Rattle.vme_moments.specs.declared.slacks.Slacks.{Slacks}
+use Rattle.std.specs.List.{slice_get}
+use Rattle.std.specs.Option.{option_map_or}
+use Rattle.vme_moments.specs.Before.{is_timely}
 use Rattle.vme_moments.specs.Orders.{IsFree, has}
 use Rattle.vme_order_search.specs.declared.taken.Taken.{Taken}
 
@@ -22,6 +25,14 @@ bucket_of t =
 -- just these places are in the set
 abbrev pub AreTaken : List ℕ → Taken → Type 0
 AreTaken places t = (i : ℕ) → holds t i ≡ has places i
+
+-- the least place that is missing lies before that one, and a slack of so much does not reach back
+-- to it from there
+abbrev pub is_far : List Seen → ℕ → ℕ → ℕ → Bool
+is_far ms reach least place =
+    nat_lt least place
+    && option_map_or (λ a. option_map_or (λ b. is_timely a.moment reach b.moment) (slice_get ms place) false)
+    (slice_get ms least) false
 
 -- no place from the first on, and below the end, can come next
 abbrev pub AreUnfree : Slacks → List Seen → List ℕ → ℕ → ℕ → Type 0

@@ -1,11 +1,7 @@
 //! Which places can come next.
 ghost use Rattle.std.specs.Prelude.{◌≡◌, ◌<◌, ◌≤◌, ℕ, List, true, All, IfErr, IfOk, IfSome, length};
-ghost use Rattle.vme_model.specs.declared.signals.Driver.{Driver as DriverValue};
-ghost use Rattle.vme_moments.specs.declared.slacks.Slacks.{Slacks as SlacksValue};
-ghost use Rattle.vme_moments.specs.Before.{slack_of};
 ghost use Rattle.vme_moments.specs.Orders.{AreInOrder, AreNext, IsFree};
-ghost use Rattle.vme_order_search.specs.Places.{AreTaken, AreUnfree, IsNarrow, IsNextFree};
-ghost use Rattle.vme_order_search.specs.declared.taken.Taken.{Taken as TakenValue};
+ghost use Rattle.vme_order_search.specs.Places.{AreTaken, IsNarrow, IsNextFree, is_far};
 
 use crate::OrderFault;
 use crate::taken::Taken;
@@ -40,10 +36,7 @@ fn is_free(seen: &[Seen], slacks: &Slacks, taken: &Taken, place: usize) -> bool
 fn is_out_of_reach(seen: &[Seen], reach: u64, least: usize, place: usize) -> bool
     requires ascending { AreInOrder seen.now }
     requires within { place < length seen.now }
-    ensures { (slacks : SlacksValue) (places : List ℕ) (taken : TakenValue)
-        → ((d : DriverValue) → slack_of slacks d ≤ reach) → IsNarrow taken → AreTaken places taken
-        → taken.least ≡ least → result ≡ true
-        → AreUnfree slacks seen.now places place (length seen.now) }
+    ensures { result ≡ is_far seen.now reach least place }
 {
     least < place && reach < seen[place].moment.saturating_sub(seen[least].moment)
 }

@@ -1,7 +1,7 @@
 //! The search for the longest legal beginning: layer by layer, from the beginnings of one length
 //! those with one place more.
 
-ghost use Rattle.std.specs.Prelude.{◌≡◌, ◌⊎◌, ◌<◌, ◌≤◌, ◌+◌, [], ℕ, All, Err, IfErr, IfOk, Ok, OnOk, false, length, reverse, true};
+ghost use Rattle.std.specs.Prelude.{◌≡◌, ◌≢◌, ◌⊎◌, ◌<◌, ◌≤◌, ◌+◌, [], ℕ, All, Err, IfErr, IfOk, Ok, OnOk, false, length, reverse, true};
 ghost use Rattle.std.specs.List.{slice_get};
 ghost use Rattle.vme_model.specs.Report.{trace_limit};
 ghost use Rattle.vme_moments.specs.Orders.{AreInOrder, AreNext, IsLongest};
@@ -23,7 +23,11 @@ use vme_moments::{Seen, Slacks};
 use vme_slots::Plan;
 
 /// How many sets of places of one length are kept, in one search after the other, before the last.
-const WIDTHS: [usize; 2] = [32, 1_024];
+/// The first follows the least legal beginning alone, which often leads to an order.
+const WIDTHS: [usize; 3] = [1, 32, 1_024];
+
+/// How many steps a trail may have beside those of one beginning before they are dropped.
+const SPARE_STEPS: usize = 65_536;
 
 /// What was found of edges that were seen.
 #[derive(Drop)]
@@ -196,6 +200,15 @@ impl Search {
         self.keep(front, place)
     }
 
+    /// Whether it looks for no more sets of places: it has as many as it keeps. A search of full width
+    /// looks on, since there are too many orders only if there is one more.
+    #[inline(always)]
+    fn is_done(&self) -> bool
+        ensures { result ≡ true → self.now.width ≢ 65536 }
+    {
+        self.width < MOST_SETS && self.sets >= self.width
+    }
+
     /// Goes on from a beginning with each place that can come next. Says whether there is no room
     /// for all.
     fn go_on(
@@ -221,14 +234,17 @@ impl Search {
         ensures fault { IfErr result (λ fault. fault ≡ OrderFault.NoMemory) }
     {
         let mut from = front.taken.least();
-        'places: while let Some(place) = next_free(seen, slacks, &front.taken, from) {
+        'places: while !self.is_done() {
+            let Some(place) = next_free(seen, slacks, &front.taken, from) else {
+                return Ok(false);
+            };
             let is_full = self.try_place(seen, front, place)?;
             if is_full {
                 return Ok(true);
             }
             from = place + 1;
         }
-        Ok(false)
+        Ok(true)
     }
 
     /// Finds the beginnings with one place more.
@@ -270,9 +286,32 @@ impl Search {
         mem::swap(&mut self.layer, &mut self.longer);
     }
 
+    /// Drops how other beginnings came about, if one alone is kept, which has so many places, and most
+    /// steps are not its own.
+    fn drop_others(&mut self, alloc: Global, places: usize) -> Result<(), OrderFault>
+        requires fit { IsFit self.old }
+        requires few { places < 4294967296 }
+        ensures fit { OnOk result (IsFit self.new) }
+        ensures some { OnOk result (0 < length self.old.layer.kept.items
+            → 0 < length self.new.layer.kept.items) }
+        ensures layer { (t : Task) (n : ℕ) → HasLayer t n self.old
+            → OnOk result (HasLayer t n self.new) }
+        ensures width { OnOk result (self.new.width ≡ self.old.width) }
+        ensures fault { IfErr result (λ fault. fault ≡ OrderFault.NoMemory) }
+    {
+        if self.layer.len() != 1 || self.trail.len() < 2 * places + SPARE_STEPS {
+            return Ok(());
+        }
+        let only = self.layer.get(0);
+        let (trail, step) = self.trail.alone(alloc, only.step)?;
+        self.trail = trail;
+        self.layer.clear();
+        self.layer.push(Beginning { step, ..only })
+    }
+
     /// Searches until no beginning can be made longer, and gives how many places the last ones
     /// have.
-    fn run(&mut self, seen: &[Seen], slacks: &Slacks) -> Result<usize, OrderFault>
+    fn run(&mut self, alloc: Global, seen: &[Seen], slacks: &Slacks) -> Result<usize, OrderFault>
         requires fit { IsFit self.old }
         requires some { 0 < length self.old.layer.kept.items }
         requires few { length seen.now < 4294967296 }
@@ -290,6 +329,7 @@ impl Search {
                 return Ok(length);
             }
             self.advance();
+            self.drop_others(alloc, length)?;
         }
         Ok(seen.len())
     }
@@ -330,7 +370,7 @@ fn longest_within(
         → HasTooMany t.version t.plan t.slacks t.seen }
 {
     let mut search = Search::new(alloc, start, width)?;
-    let length = search.run(seen, slacks)?;
+    let length = search.run(alloc, seen, slacks)?;
     if search.is_cut && length < seen.len() {
         return Err(OrderFault::TooManyOrders);
     }

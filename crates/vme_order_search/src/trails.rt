@@ -54,6 +54,12 @@ impl Trail {
         }
     }
 
+    /// How many steps it has.
+    #[inline(always)]
+    pub(crate) fn len(&self) -> usize {
+        self.steps.len()
+    }
+
     /// The beginning that ends there, the newest place first.
     fn newest_first(&self, alloc: Global, step: u32) -> Result<Vec<u32>, OrderFault>
         requires { IsTrail self.now }
@@ -84,5 +90,22 @@ impl Trail {
         let mut places = self.newest_first(alloc, step)?;
         places.reverse();
         Ok(places)
+    }
+
+    /// The beginning that ends there without any other, and where it ends then.
+    pub(crate) fn alone(&self, alloc: Global, step: u32) -> Result<(Trail, u32), OrderFault>
+        requires { IsTrail self.now }
+        ensures trail { IfOk result (λ alone. IsTrail alone.0) }
+        ensures ends { IfOk result (λ alone. (path : List ℕ) → Ends self.now step path
+            → Ends alone.0 alone.1 path) }
+        ensures fault { IfErr result (λ fault. fault ≡ OrderFault.NoMemory) }
+    {
+        let places = self.beginning(alloc, step)?;
+        let mut trail = Trail::new(alloc)?;
+        let mut at = 0;
+        for place in &places {
+            at = trail.push(at, *place as usize)?;
+        }
+        Ok((trail, at))
     }
 }

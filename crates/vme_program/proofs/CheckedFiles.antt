@@ -107,21 +107,22 @@ all_checked p traces i seen a b beyond h =
 
 -- ---- the job
 
+-- no plan, whatever a job over several traces does with one
+pub unplanned : (text : List ℕ) (Leaves : Plan → Answer → Type 0) (old new : Known) (Stops : List ℕ → Fault → Type 0) (Fails : ProgramFault → Type 0) (name : Bor (List ℕ)) (f : EngineFault) → Keeps old new → IsNoPlan text f
+    → Hands (Alone (λ (a : Answer). (t : List ℕ) × Lent t (Keeps old new) Leaves a)) Stops Fails (Keeps old new) (Err (fault_named name f))
+unplanned text Leaves old new Stops Fails name fault.TooLong kept_so h = kept_so
+unplanned text Leaves old new Stops Fails name (fault.Scenario e) kept_so h = inl (text, (h.0, h.1, kept_so))
+unplanned text Leaves old new Stops Fails name (fault.Trace f) kept_so h = absurd h
+unplanned text Leaves old new Stops Fails name fault.CannotRead kept_so h = absurd h
+unplanned text Leaves old new Stops Fails name fault.NoMemory kept_so h = absurd h
+unplanned text Leaves old new Stops Fails name (fault.Beyond n) kept_so h = absurd h
+
 module _ (text : List ℕ) (names : List (List ℕ)) (old new : Known) (Stops : List ℕ → Fault → Type 0) where
   abbrev Ends : Answer → Type 0
   Ends a = (t : List ℕ) × Lent t (Keeps old new) (ChecksFiles names old new) a
 
   abbrev pub Checks : (ProgramFault → Type 0) → Result Status ProgramFault → Type 0
   Checks Fails r = Hands (Alone Ends) Stops Fails (Keeps old new) r
-
-  -- no plan
-  pub checks_unplanned : (Fails : ProgramFault → Type 0) (name : Bor (List ℕ)) (f : EngineFault) → Keeps old new → IsNoPlan text f → Checks Fails (Err (fault_named name f))
-  checks_unplanned Fails name fault.TooLong kept_so h = kept_so
-  checks_unplanned Fails name (fault.Scenario e) kept_so h = inl (text, (h.0, h.1, kept_so))
-  checks_unplanned Fails name (fault.Trace f) kept_so h = absurd h
-  checks_unplanned Fails name fault.CannotRead kept_so h = absurd h
-  checks_unplanned Fails name fault.NoMemory kept_so h = absurd h
-  checks_unplanned Fails name (fault.Beyond n) kept_so h = absurd h
 
   module _ (plan : (p : Plan) × (length text ≤ scenario_limit) × (read text ≡ Ok p)) where
     -- the output cannot be written

@@ -6,7 +6,7 @@ use Rattle.vme_trace.specs.declared.Fault.TheVariants.{Write}
 use Rattle.vme_trace.specs.Writing.{AppendsFront}
 use Rattle.vme_model.specs.Plan.{Plan}
 use Rattle.vme_engines.specs.declared.Status.{Status}
-use Rattle.vme_program.specs.Comparisons.{WasFound, comparison_line, comparison_status}
+use Rattle.vme_program.specs.Comparisons.{WasFound, comparison_lines, comparison_status}
 use Rattle.vme_program.specs.declared.faults.ProgramFault.{ProgramFault}
 use Rattle.vme_program.specs.declared.faults.ProgramFault.TheVariants.{Engine}
 use Rattle.std.specs.Borrow.{Bor}
@@ -44,10 +44,10 @@ was_found : (p : Plan) (s t : Streams) (found : Comparison)
     → ReadsPair (λ v w es fs found. IsComparison p v w es fs found) s t (Ok found) → WasFound p found
 was_found p s t found h = (h.0, h.1, h.2, h.3, s, t, h.4, h.5, h.6)
 
--- its line is written, or a prefix of it
+-- its lines are written, or a prefix of them
 pub same_found : (scenario trace other : Bor (List ℕ)) (text : List ℕ) (s t : Streams) (old new : Known) (found : Comparison) (answer : Result Status ProgramFault) → ComparesText text s t (Ok found)
-    → IfOk answer (λ status. (status ≡ comparison_status found) × Appends old new (comparison_line trace.now other.now found))
-    → OnErr answer (AppendsFront old new (comparison_line trace.now other.now found))
+    → IfOk answer (λ status. (status ≡ comparison_status found) × Appends old new (comparison_lines trace.now other.now found))
+    → OnErr answer (AppendsFront old new (comparison_lines trace.now other.now found))
     → IfErr answer (λ f. f ≡ Engine (fault.Trace Write))
     → IsDone (Same scenario trace other) old new answer
 same_found scenario trace other text s t old new found (Ok status) h ok front is = (text, (h.0, h.1, h.2, (found, was_found h.0 s t found h.3, ok.0, ok.1)))

@@ -1,17 +1,14 @@
 -- The answer of an engine, as a job passes it on.
-use Rattle.std.proofs.Common.{◌≡◌, ◌⊎◌, inl, inr, ℕ, Bool, List, Result, Ok, Err, refl, sym, subst}
+use Rattle.std.proofs.Common.{◌≡◌, inl, inr, ℕ, Bool, List, Result, Ok, Err, refl, subst}
 use Rattle.std.specs.Io.KnownBytes.{Keeps}
 use Rattle.std.specs.Borrow.{Bor}
-use Rattle.std.proofs.KnownBytes.{Keeps-refl}
 use Rattle.vme_model.specs.declared.signals.Version.{Version}
 use Rattle.vme_model.specs.Plan.{Plan}
-use Rattle.vme_goals.specs.declared.goals.Goal.{Goal}
 use Rattle.vme_trace.specs.declared.Fault.{Fault}
 use Rattle.vme_engines.specs.declared.Status.{Status}
 use Rattle.vme_engines.specs.declared.EngineFault.TheVariants as fault
 use Rattle.vme_engines.specs.Streams.{Streams, ReadNothing, WroteNothing, streams}
-use Rattle.vme_engines.specs.Outcomes.{Answer, Lent, LentAsking}
-use Rattle.vme_engines.specs.Found.{Found, Finds, found_answer}
+use Rattle.vme_engines.specs.Outcomes.{Answer, LentAsking}
 use Rattle.vme_engines.specs.Joining.{Joins}
 use Rattle.vme_engines.specs.Readings.{ReadsInput, ReadsLent}
 use Rattle.vme_engines.specs.declared.EngineFault.{EngineFault}
@@ -25,10 +22,8 @@ use Rattle.vme_moments.specs.declared.slacks.Slacks.{Slacks}
 use Rattle.vme_order.specs.declared.Form.{Form}
 use Rattle.vme_order.specs.declared.OrderingFault.TheVariants as order
 use Rattle.vme_order.specs.Ordering.{Answer as OrderAnswer, LentText, OrdersInput}
-use Rattle.vme_command_line.specs.declared.Job.{Job}
-use Rattle.vme_command_line.specs.declared.Job.TheVariants.{Joined, OtherOrder, Order, Search, Run}
+use Rattle.vme_command_line.specs.declared.Job.TheVariants.{Joined, OtherOrder, Order, Run}
 use Rattle.vme_program.specs.declared.faults.ProgramFault.{ProgramFault}
-use Rattle.vme_program.specs.declared.faults.ProgramFault.TheVariants.{CannotRead, TooLong, Engine}
 use Rattle.vme_program.specs.Done.{Alone, Hands, IsDone, Known, OnTrace}
 use Rattle.vme_program.specs.Names.{form_of, answer_named, order_answer_named, other_answer_named, run_answer_named}
 
@@ -55,26 +50,6 @@ pub on_trace : (Stops : List ℕ → Fault → Type 0) (Ends : Streams → Plan 
     → Hands (Alone (OnTrace Ends old new)) Stops (λ f. ⊥) (Keeps old new) (answer_named name answer)
 on_trace Stops Ends name text from to old new answer does =
     handed Stops (λ f. ⊥) (OnTrace Ends old new) (Keeps old new) name answer (text, from, to, does) (λ h. absurd h.3) (λ h. h.3.1.1)
-
-pub search_done : (scenario : Bor (List ℕ)) (text : List ℕ) (edges first last : ℕ) (goal : Goal) (version : Version) (progress : Bool) (old new : Known) (found : Found)
-    → Lent text (Keeps old new) (Finds version edges first last goal old new found) (found_answer found)
-    → IsDone (Search scenario edges first last goal version progress) old new (answer_named scenario (found_answer found))
-search_done scenario text edges first last goal version progress old new found does =
-    handed _ (λ f. ⊥) (λ a. (t : List ℕ) × (f : Found) × (a ≡ found_answer f) × Lent t (Keeps old new) (Finds version edges first last goal old new f) a)
-    (Keeps old new) scenario (found_answer found) (text, found, refl, does) (λ h. absurd h.3) (λ h. h.3.1)
-
--- a file that cannot be read, or a scenario that is too long, or no memory, before an engine begins
-pub unread : (job : Job) (name : Bor (List ℕ)) (held : Known) (f : ProgramFault)
-    → (f ≡ CannotRead name) ⊎ (f ≡ TooLong name) ⊎ (f ≡ Engine fault.NoMemory) → IsDone job held held (Err f)
-unread job name held f why = elim why [
-  | inl is ↦ subst (λ (g : ProgramFault). IsDone job held held (Err g)) (sym is) (Keeps-refl held)
-  | inr (inl is) ↦ subst (λ (g : ProgramFault). IsDone job held held (Err g)) (sym is) (Keeps-refl held)
-  | inr (inr is) ↦ subst (λ (g : ProgramFault). IsDone job held held (Err g)) (sym is) (inr (refl, Keeps-refl held))
-]
-
-pub unopened : (job : Job) (name : Bor (List ℕ)) (held : Known) (f : ProgramFault)
-    → (f ≡ CannotRead name) ⊎ (f ≡ Engine fault.NoMemory) → IsDone job held held (Err f)
-unopened job name held f why = unread job name held f (elim why [ inl is ↦ inl is | inr is ↦ inr (inr is) ])
 
 pub run_done : (scenario : Bor (List ℕ)) (text : List ℕ) (edges turns : ℕ) (version : Version) (old new : Known) (answer : Result Status RunFault)
     → Runs text version edges turns old new answer → IsDone (Run scenario edges turns version) old new (run_answer_named scenario answer)

@@ -10,3 +10,5 @@ pub mod EscapedNames
 pub mod Compared
 -- src/checks.rt: traces that are checked, file by file
 pub mod CheckedFiles
+-- src/goals.rt, src/jobs.rt: a goal that something may hinder
+pub mod Reaching

@@ -14,7 +14,7 @@ use Rattle.vme_engines.specs.declared.EngineFault.TheVariants as fault
 use Rattle.vme_engines.specs.Streams.{streams}
 use Rattle.vme_engines.specs.Outcomes.{Answer, scenario_limit}
 use Rattle.vme_engines.specs.Checking.{FindsNothing, IsFound, finding_line}
-use Rattle.vme_program.specs.Shown.{escaped}
+use Rattle.vme_escapes.specs.Shown.{escaped}
 use Rattle.vme_program.specs.declared.faults.ProgramFault.{ProgramFault}
 use Rattle.vme_program.specs.declared.faults.ProgramFault.TheVariants.{CannotRead, Engine, InTrace}
 

@@ -15,23 +15,23 @@ use Rattle.vme_engines.specs.Streams.{Streams}
 use Rattle.vme_engines.specs.Outcomes.{Answer}
 use Rattle.vme_engines.specs.Pairs.{EitherMeets, IsReadWhole}
 use Rattle.vme_same.specs.Comparing.{IsComparison}
-use Rattle.vme_same.specs.Lines.{found_line}
+use Rattle.vme_same.specs.Lines.{found_lines}
 use Rattle.vme_same.specs.declared.comparisons.Comparison.{Comparison}
 use Rattle.vme_same.specs.declared.comparisons.Comparison.TheVariants.{Same, Refuses}
-use Rattle.vme_program.specs.Shown.{escaped}
+use Rattle.vme_escapes.specs.Shown.{escaped}
 
 -- how the line of a refused edge begins: with the name of its file
 abbrev pub refused_in : List ℕ → List ℕ
 refused_in name = (codes "refused " ++ escaped name) ++ codes " "
 
--- how the line begins, by the names of both files
+-- how the first line begins, by the names of both files
 abbrev pub beginning_of : List ℕ → List ℕ → Comparison → List ℕ
 beginning_of first second (Refuses true n refused) = refused_in first
 beginning_of first second (Refuses false n refused) = refused_in second
 beginning_of first second found = []
 
-abbrev pub comparison_line : List ℕ → List ℕ → Comparison → List ℕ
-comparison_line first second found = beginning_of first second found ++ found_line found
+abbrev pub comparison_lines : List ℕ → List ℕ → Comparison → List ℕ
+comparison_lines first second found = beginning_of first second found ++ found_lines found
 
 abbrev pub comparison_status : Comparison → Status
 comparison_status (Same n) = Done
@@ -51,15 +51,15 @@ FirstStops f = (s : Streams) × (t : Streams) × EitherMeets s t (First f)
 abbrev pub SecondStops : Fault → Type 0
 SecondStops f = (s : Streams) × (t : Streams) × EitherMeets s t (Second f)
 
--- What the comparison of the traces in the files of these names leaves on a plan: the line of what
--- is found, at X8 a prefix of it. If the first trace has a fault, nothing is written.
+-- What the comparison of the traces in the files of these names leaves on a plan: the lines of what
+-- is found, at X8 a prefix of them. If the first trace has a fault, nothing is written.
 abbrev pub ComparesFiles :
     List ℕ → List ℕ → Option (List ℕ) → Option (List ℕ) → Plan → Answer → Type 0
 ComparesFiles first second old new p (Ok status) =
     (found : Comparison) × WasFound p found × (status ≡ comparison_status found)
-    × Appends old new (comparison_line first second found)
+    × Appends old new (comparison_lines first second found)
 ComparesFiles first second old new p (Err (fault.Trace f)) =
     (FirstStops f × Keeps old new)
     ⊎ ((f ≡ Write) × (found : Comparison) × WasFound p found
-    × AppendsFront old new (comparison_line first second found))
+    × AppendsFront old new (comparison_lines first second found))
 ComparesFiles first second old new p (Err _) = ⊥

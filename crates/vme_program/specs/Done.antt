@@ -1,5 +1,5 @@
 -- What a job leaves on its output, and returns.
-use Rattle.std.specs.Prelude.{◌≡◌, ◌⊎◌, ℕ, List, length, Option, Some, None, Result, Ok, Err}
+use Rattle.std.specs.Prelude.{◌≡◌, ◌⊎◌, ℕ, List, Option, Some, None, Result, Ok, Err}
 use Rattle.std.specs.Io.KnownBytes.{Appends, Keeps}
 use Rattle.vme_model.specs.declared.Rule.{Rule}
 use Rattle.vme_model.specs.Plan.{Plan}
@@ -45,10 +45,11 @@ use Rattle.vme_command_line.specs.declared.TheConstants.{VERSION}
 use Rattle.vme_program.specs.CheckedFiles.{ChecksFiles, HasFaulty}
 use Rattle.vme_program.specs.Comparisons.{ComparesFiles, SecondStops}
 use Rattle.vme_program.specs.Names.{form_of, line_form}
+use Rattle.vme_program.specs.Reaching.{GivesUp, Unhindered}
 use Rattle.vme_program.specs.Statuses.{exit_code}
-use Rattle.vme_program.specs.Together.{StopsAt, SumsUp}
+use Rattle.vme_program.specs.Together.{LacksFiles, SumsFiles}
 use Rattle.vme_program.specs.declared.faults.ProgramFault.{ProgramFault}
-use Rattle.vme_program.specs.declared.faults.ProgramFault.TheVariants.{CannotRead, TooLong, Engine, InTrace, SomeTraces, NoRace, Boards, Ordering}
+use Rattle.vme_program.specs.declared.faults.ProgramFault.TheVariants.{CannotRead, TooLong, Engine, InTrace, SomeTraces, NoRace, NeverComes, Boards, Ordering}
 
 abbrev pub Known : Type 0
 Known = Option (List ℕ)
@@ -123,7 +124,8 @@ Does (Show scenario trace from to color) old new =
     Alone (OnTrace (ShowsInput from to color) old new)
 Does (Summary scenario trace) old new = Alone (OnTrace SumsInput old new)
 Does (Sums scenario traces) old new = Alone (λ answer.
-    (text : List ℕ) × Lent text (Keeps old new) (SumsUp (length traces.items) old new) answer)
+    (text : List ℕ)
+    × Lent text (Keeps old new) (SumsFiles (texts_of traces.items) old new) answer)
 Does (Races scenario trace) old new = Alone (OnTrace ReportsRaces old new)
 Does (Walk scenario trace edge) old new = Alone (OnTrace (PrintsWalkInput edge) old new)
 Does (OtherOrder scenario trace edge) old new = Reordered (OnRace edge old new)
@@ -135,17 +137,17 @@ Does (Order scenario moments slacks places) old new =
 Does (Drive scenario edges version) old new = Alone (λ answer.
     (text : List ℕ) × Lent text (Keeps old new) (Drives version edges old new) answer)
 Does (Draw scenario edges seed until version) old new = Alone (λ answer.
-    (text : List ℕ) × Lent text (Keeps old new) (Draws version seed edges until old new) answer)
+    (text : List ℕ)
+    × Lent text (Keeps old new) (Unhindered until (Draws version seed edges until old new)) answer)
 Does (Search scenario edges first last goal version progress) old new = Alone (λ answer.
     (text : List ℕ) × (found : Found) × (answer ≡ found_answer found)
-    × Lent text (Keeps old new) (Finds version edges first last goal old new found) answer)
+    × Lent text (Keeps old new)
+    (Unhindered (Some goal) (Finds version edges first last goal old new found)) answer)
 Does (Run scenario edges turns version) old new = λ answer.
     (text : List ℕ) × Runs text version edges turns old new answer
 
 -- a trace of a job that reads several has a fault
 abbrev pub Stops : Job → List ℕ → Fault → Type 0
-Stops (Sums scenario traces) name f =
-    (text : List ℕ) × (p : Plan) × (read text ≡ Ok p) × StopsAt (texts_of traces.items) name f p
 Stops (Same scenario trace other) name f =
     (text : List ℕ) × (p : Plan) × (read text ≡ Ok p) × (name ≡ other.now) × SecondStops f
 Stops job name f = ⊥
@@ -153,10 +155,14 @@ Stops job name f = ⊥
 -- a job ends with a fault that it has alone
 abbrev pub Fails : Job → Known → Known → ProgramFault → Type 0
 Fails (Checks scenario traces) old new SomeTraces = HasFaulty (texts_of traces.items) old new
+Fails (Sums scenario traces) old new SomeTraces = LacksFiles (texts_of traces.items) old new
 Fails (Order scenario moments slacks places) old new (Ordering f) =
     OnMoments (form_of places) slacks old new (Err f)
 Fails (OtherOrder scenario trace edge) old new (NoRace asked) =
     (asked ≡ edge) × OnRace edge old new (Ok other.NoRace)
+Fails (Draw scenario edges seed until version) old new (NeverComes why) = GivesUp until old new why
+Fails (Search scenario edges first last goal version progress) old new (NeverComes why) =
+    GivesUp (Some goal) old new why
 Fails job old new f = ⊥
 
 -- The answer is an engine's. Or a file could not be read, there was no memory for what is passed to
@@ -173,6 +179,7 @@ Hands Ends Stops Fails nothing (Err (InTrace name f)) = Stops name.now f × noth
 Hands Ends Stops Fails nothing (Err (Boards f)) = Ends (Err f)
 Hands Ends Stops Fails nothing (Err SomeTraces) = Fails SomeTraces
 Hands Ends Stops Fails nothing (Err (NoRace edge)) = Fails (NoRace edge)
+Hands Ends Stops Fails nothing (Err (NeverComes why)) = Fails (NeverComes why)
 Hands Ends Stops Fails nothing (Err (Ordering f)) = Fails (Ordering f)
 
 -- the job is done in this way

@@ -22,7 +22,7 @@ use Rattle.vme_command_line.specs.Asked.{texts_of}
 use Rattle.vme_command_line.specs.declared.Job.{Job}
 use Rattle.vme_command_line.specs.declared.Job.TheVariants.{Joined, OwnVersion, Replay, Check, Checks, Cycles, Explain, Shrink, Rules, State, Show, Summary, Sums, Races, Walk, OtherOrder, Same, Order, Drive, Draw, Search, Run}
 use Rattle.vme_program.specs.declared.faults.ProgramFault.{ProgramFault}
-use Rattle.vme_program.specs.declared.faults.ProgramFault.TheVariants.{CannotRead, TooLong, Engine, InTrace, SomeTraces, NoRace, Boards, Ordering}
+use Rattle.vme_program.specs.declared.faults.ProgramFault.TheVariants.{CannotRead, TooLong, Engine, InTrace, SomeTraces, NoRace, NeverComes, Boards, Ordering}
 
 -- the name of the scenario of a job: standard input is `-`, and the version has none
 abbrev pub scenario_name : Job → List ℕ
@@ -157,5 +157,6 @@ IsFaultOf job (Engine fault) = Unit {0}
 IsFaultOf job (InTrace name fault) = IsFileOf job name.now
 IsFaultOf job SomeTraces = Unit {0}
 IsFaultOf job (NoRace edge) = Unit {0}
+IsFaultOf job (NeverComes why) = Unit {0}
 IsFaultOf job (Boards fault) = Unit {0}
 IsFaultOf job (Ordering fault) = Unit {0}

@@ -5,12 +5,12 @@ ghost use Rattle.vme_program.specs.Words.{IsPlaced, outcome};
 ghost use Rattle.vme_program.specs.declared.arguments.WordsFault.TheVariants.{NoMemory};
 
 use crate::faults::report;
-use crate::lines::Lines;
 use std::alloc::{AllocError, AllocFailed};
 use std::env::{Env, FillError};
 use std::fmt;
 use std::process::ExitCode;
 use thiserror::Error;
+use vme_escapes::Lines;
 
 /// The room that a word gets at first, in bytes.
 const ROOM: usize = 256;

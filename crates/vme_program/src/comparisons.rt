@@ -3,7 +3,7 @@ ghost use Rattle.std.specs.Prelude.{◌≡◌, IfErr, IfOk, IsTrue, OnErr, OnOk}
 ghost use Rattle.std.specs.Io.KnownBytes.{Appends};
 ghost use Rattle.vme_trace.specs.Writing.{AppendsFront};
 ghost use Rattle.vme_same.specs.Formed.{is_formed_found};
-ghost use Rattle.vme_program.specs.Comparisons.{beginning_of, comparison_line, comparison_status, refused_in};
+ghost use Rattle.vme_program.specs.Comparisons.{beginning_of, comparison_lines, comparison_status, refused_in};
 
 use crate::escapes::write_escaped;
 use crate::faults::ProgramFault;
@@ -55,9 +55,9 @@ fn write_comparison<W: Write>(
 ) -> Result<(), Fault>
     requires { IsTrue (is_formed_found found) }
     ensures ok { OnOk result (Appends (W.contents out.old) (W.contents out.new)
-        (comparison_line first.now second.now found)) }
+        (comparison_lines first.now second.now found)) }
     ensures front { OnErr result (AppendsFront (W.contents out.old) (W.contents out.new)
-        (comparison_line first.now second.now found)) }
+        (comparison_lines first.now second.now found)) }
     ensures fault { IfErr result (λ fault. fault ≡ Fault.Write) }
 {
     write_beginning(first, second, &found, out)?;
@@ -84,9 +84,9 @@ pub(crate) fn report_comparison<'a, W: Write>(
     requires { IsTrue (is_formed_found found) }
     ensures ok { IfOk result (λ status. (status ≡ comparison_status found)
         × Appends (W.contents out.old) (W.contents out.new)
-        (comparison_line first.now second.now found)) }
+        (comparison_lines first.now second.now found)) }
     ensures front { OnErr result (AppendsFront (W.contents out.old) (W.contents out.new)
-        (comparison_line first.now second.now found)) }
+        (comparison_lines first.now second.now found)) }
     ensures fault { IfErr result (λ fault.
         fault ≡ ProgramFault.Engine (EngineFault.Trace Fault.Write)) }
 {

@@ -4,13 +4,14 @@ ghost use Rattle.std.specs.IoError.{error_kind};
 ghost use Rattle.std.specs.Process.{exit_status};
 ghost use Rattle.vme_program.specs.Names.{fault_named, pair_fault_named, trace_fault_named};
 
-use crate::lines::OneLine;
 use std::fmt;
 use std::io::{self, ErrorKind};
 use std::process::ExitCode;
 use thiserror::Error;
 use vme_engines::{EngineFault, PairFault};
+use vme_escapes::OneLine;
 use vme_order::OrderingFault;
+use vme_reach::Hindrance;
 use vme_run::RunFault;
 use vme_trace::Fault;
 
@@ -41,6 +42,9 @@ pub enum ProgramFault<'a> {
     /// X11: no edge races with the edge that has this number, so that there is no other order.
     #[error("X11 edge {0} races with none")]
     NoRace(u64),
+    /// No edge of the scenario's backplane reaches the goal of `drive --until`.
+    #[error("{0}")]
+    NeverComes(Hindrance),
     /// A fault of `run`, whose boards run in threads.
     #[error("{0}")]
     Boards(RunFault),

@@ -14,13 +14,14 @@ ghost use Rattle.vme_engines.specs.Steps.{IsNoPlan};
 ghost use Rattle.vme_engines.specs.declared.EngineFault.{EngineFault as EngineFaultValue};
 ghost use Rattle.vme_program.specs.Names.{IsFaultOf, form_of, line_form, answer_named, fault_named, order_answer_named, other_answer_named, run_answer_named, trace_answer_named};
 ghost use Rattle.vme_program.specs.Statuses.{exit_code};
-ghost use Rattle.vme_program.specs.Adding.{AddsFile, AddsFiles};
 
 use crate::checks::check_files;
 use crate::comparisons::report_comparison;
 use crate::faults::ProgramFault;
 use crate::files::{buffered, open, read_scenario};
+use crate::goals::test_goal;
 use crate::reporters::Reporter;
+use crate::sums::sum_files;
 use std::io::Write;
 use std::process::ExitCode;
 use std::sync::Wait;
@@ -28,8 +29,8 @@ use std::thread::Threads;
 use vme_command_line::{Job, VERSION};
 use vme_cycles::cycles;
 use vme_engines::{
-    EngineFault, LineForm, Status, add_trace, check, drive, drive_drawn, drive_found, explain,
-    joined, plan_of, print_sums, replay, show, state, summary,
+    EngineFault, LineForm, Status, check, drive, drive_drawn, drive_found, explain, joined,
+    plan_of, replay, show, state, summary,
 };
 use vme_goals::Goal;
 use vme_model::{Rule, Version};
@@ -40,7 +41,7 @@ use vme_rulebook::{all_rules, one_rule};
 use vme_run::{RunFault, run as run_scenario};
 use vme_same::compare;
 use vme_shrink::shrink;
-use vme_summary::Sums;
+use vme_slots::Plan;
 use vme_text::Text;
 use vme_trace::{Fault, flush, put};
 
@@ -269,6 +270,26 @@ fn run_check<'a, W: Write>(
     answer_of(scenario, check(rt.alloc(), &text, &mut input, out))
 }
 
+/// The plan of the text of a scenario.
+///
+/// # Errors
+/// The scenario's.
+pub(crate) fn plan_in<'a>(
+    rt: &HostRuntime,
+    name: &'a str,
+    text: &[u8],
+) -> Result<Plan, ProgramFault<'a>>
+    ensures ok { IfOk result
+        (λ p. (length text.now ≤ scenario_limit) × (read text.now ≡ Ok p)) }
+    ensures fault { IfErr result (λ fault. (f : EngineFaultValue) × IsNoPlan text.now f
+        × (fault ≡ fault_named name.entry f)) }
+{
+    match plan_of(rt.alloc(), text) {
+        Ok(plan) => Ok(plan),
+        Err(fault) => Err(ProgramFault::of_engine(name, fault)),
+    }
+}
+
 /// Tests whether the text of a scenario has a plan.
 ///
 /// # Errors
@@ -279,9 +300,9 @@ fn test_plan<'a>(rt: &HostRuntime, name: &'a str, text: &[u8]) -> Result<(), Pro
     ensures fault { IfErr result (λ fault. (f : EngineFaultValue) × IsNoPlan text.now f
         × (fault ≡ fault_named name.entry f)) }
 {
-    match plan_of(rt.alloc(), text) {
+    match plan_in(rt, name, text) {
         Ok(_) => Ok(()),
-        Err(fault) => Err(ProgramFault::of_engine(name, fault)),
+        Err(fault) => Err(fault),
     }
 }
 
@@ -399,41 +420,7 @@ fn run_summary<'a, W: Write>(
     answer_of(scenario, summary(rt.alloc(), &text, &mut input, out))
 }
 
-/// Adds to the sums what the trace of that name exercised. It is one of several on the scenario.
-fn add_file<'a>(
-    rt: &HostRuntime,
-    text: &[u8],
-    scenario: &'a str,
-    trace: &'a str,
-    sums: &mut Sums,
-) -> Result<Status, ProgramFault<'a>>
-    ensures { AddsFile text.now scenario.entry trace.entry sums.old sums.new result }
-{
-    let mut input = open(rt, trace)?;
-    answer_of_trace(
-        scenario,
-        trace,
-        add_trace(rt.alloc(), text, &mut input, sums),
-    )
-}
-
-/// Adds up what the traces of those names exercised on the scenario, up to the first fault.
-fn add_files<'a>(
-    rt: &HostRuntime,
-    text: &[u8],
-    scenario: &'a str,
-    traces: &[&'a str],
-) -> Result<Sums, ProgramFault<'a>>
-    ensures { AddsFiles text.now scenario.entry traces.now result }
-{
-    let mut sums = Sums::new();
-    for trace in traces {
-        add_file(rt, text, scenario, *trace, &mut sums)?;
-    }
-    Ok(sums)
-}
-
-/// Adds up what several traces exercised, and prints the sums.
+/// Adds up what several traces exercised, each whatever the others are, and prints the sums.
 #[inline(never)]
 fn run_sums<'a, W: Write>(
     rt: &HostRuntime,
@@ -446,8 +433,11 @@ fn run_sums<'a, W: Write>(
         (W.contents out.old) (W.contents out.new) result }
 {
     let text = read_scenario(rt, scenario)?;
-    let sums = add_files(rt, &text, scenario, &traces)?;
-    answer_of(scenario, print_sums(rt.alloc(), &text, &sums, out))
+    let plan = plan_in(rt, scenario, &text)?;
+    match sum_files(rt, &text, &plan, scenario, &traces, out) {
+        Ok(added) => added.status(),
+        Err(fault) => Err(ProgramFault::Engine(EngineFault::Trace(fault))),
+    }
 }
 
 /// Prints which edges of a trace race.
@@ -579,7 +569,8 @@ fn run_drive<'a, W: Write>(
     answer_of(scenario, drive(rt.alloc(), &text, edges, out, version))
 }
 
-/// Draws edges at random from all that are open to the drivers of a scenario.
+/// Draws edges at random from all that are open to the drivers of a scenario, if nothing hinders
+/// the goal.
 #[inline(never)]
 fn run_draw<'a, W: Write>(
     rt: &HostRuntime,
@@ -595,13 +586,15 @@ fn run_draw<'a, W: Write>(
         (W.contents out.old) (W.contents out.new) result }
 {
     let text = read_scenario(rt, scenario)?;
+    test_goal(rt, scenario, &text, until)?;
     answer_of(
         scenario,
         drive_drawn(rt.alloc(), &text, edges, seed, until, out, version),
     )
 }
 
-/// Draws edges by one seed after another, until the trace of one ends with the goal.
+/// Draws edges by one seed after another, until the trace of one ends with the goal, if nothing
+/// hinders it.
 #[inline(never)]
 fn run_search<'a, W: Write>(
     rt: &HostRuntime,
@@ -621,6 +614,7 @@ fn run_search<'a, W: Write>(
         (W.contents out.old) (W.contents out.new) result }
 {
     let text = read_scenario(rt, scenario)?;
+    test_goal(rt, scenario, &text, Some(goal))?;
     let alloc = rt.alloc();
     let reporter = &mut Reporter::new(rt, progress);
     let found = drive_found(

@@ -12,9 +12,10 @@ mod comparisons;
 mod escapes;
 mod faults;
 mod files;
+mod goals;
 mod jobs;
-mod lines;
 mod reporters;
+mod sums;
 
 use arguments::report_words;
 pub use arguments::{WordsFault, given};

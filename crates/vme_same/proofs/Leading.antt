@@ -16,18 +16,18 @@ use Rattle.vme_races.specs.declared.walks.Stop.{Stop}
 use Rattle.vme_races.specs.declared.walks.Stop.TheVariants.{Begins, Far, Waits, Races}
 use Rattle.vme_races.specs.Walks.{Meets, most_passed}
 use Rattle.vme_same.specs.declared.comparisons.Comparison.{Comparison}
-use Rattle.vme_same.specs.declared.comparisons.Comparison.TheVariants.{Same, OtherVersion, Differs}
+use Rattle.vme_same.specs.declared.comparisons.Comparison.TheVariants.{Same, OtherVersion, Differs, Leaves}
 use Rattle.vme_same.specs.declared.comparisons.Why.{Why}
 use Rattle.vme_same.specs.declared.comparisons.Why.TheVariants.{Missing, Stops}
-use Rattle.vme_same.specs.declared.comparisons.Why.TheVariants as why
 use Rattle.vme_same.specs.declared.edges.Left.{Left}
 use Rattle.vme_same.specs.declared.edges.Next.{Next}
+use Rattle.vme_same.specs.declared.progress.Sought.{Sought}
 use Rattle.vme_same.specs.declared.progress.Progress.{Progress}
 use Rattle.vme_same.specs.declared.progress.Progress.TheVariants.{Open, Finds}
 use Rattle.vme_same.specs.declared.rest.Rest.{Rest}
-use Rattle.vme_same.specs.Comparing.{Compares, GoesBack, IsMissing, IsOutcome, IsOver, IsPlace, StaysBack}
+use Rattle.vme_same.specs.Comparing.{Compares, GoesBack, HasNoneOf, IsFirstOf, IsMissing, IsOutcome, IsOver, IsPlace, StaysBack}
 use Rattle.vme_same.specs.Kept.{GoesBy, IsAt, IsOpen, IsSought, IsSure, Leads, edges_of, numbers}
-use Rattle.vme_same.proofs.Lists.{before_count, numbers_append, place_of}
+use Rattle.vme_same.proofs.Lists.{before_count, first_on, has_some, numbers_append, place_of, split_of}
 use Rattle.vme_same.proofs.Brought.{brought_at, legal_taken, swaps_none, swaps_on, swaps_under}
 
 -- ---- an edge that does not come to the front
@@ -140,19 +140,31 @@ module _ (p : Plan) (v w : Version) (k : Numbered) (fs : List Edge) where
   module _ (e : Edge) (next : List Edge) (rest : Rest) (n number : ℕ)
       (ready : IsOpen p v w k fs (e ∷ next) rest n) (is : number ≡ n + 1) where
     -- it stays back for this reason, whatever comes
-    stays_sure : (ended over : Bool) (why : Why)
+    stays_sure : (ended over : Bool) (why : Why) (own : Option (ℕ × Edge))
         → ((more : Numbered) → StaysBack v p e ready.taken (more ++ numbers rest.edges.items) why)
-        → IsSure p v w k fs ended over (Differs number e why)
-    stays_sure ended over why stays more later first second =
-        ready.leads more later (Differs number e why)
-        (inl (why, stays more, ap (λ m. Differs m e why) is))
+        → ((more : Numbered) → IsFirstOf e.driver (more ++ numbers rest.edges.items) own)
+        → IsSure p v w k fs ended over (Differs number e why own)
+    stays_sure ended over why own stays firsts more later first second =
+        ready.leads more later (Differs number e why own)
+        (inl (why, own, stays more, firsts more, ap (λ m. Differs m e why own) is))
+
+    -- its driver has an edge that is left, and the first one stays the first
+    first_there : (place : ℕ) → IsAt e place rest.edges.items → (own : Option (ℕ × Edge))
+        → IsFirstOf e.driver (numbers rest.edges.items) own → (more : Numbered)
+        → IsFirstOf e.driver (more ++ numbers rest.edges.items) own
+    first_there place at own first more =
+        first_on e.driver more (numbers rest.edges.items) own (λ none.
+        has_some (numbers at.behind) at.left.number e (numbers at.before)
+        (subst (HasNoneOf e.driver) (split_of e place rest.edges.items at []) none)) first
 
     pub far_sure : (ended over : Bool) (place : ℕ) → IsAt e place rest.edges.items
-        → most_passed < place → IsSure p v w k fs ended over (Differs number e (Stops Far))
-    far_sure ended over place at far = stays_sure ended over (Stops Far) (λ more. (
+        → most_passed < place → (own : Option (ℕ × Edge))
+        → IsFirstOf e.driver (numbers rest.edges.items) own
+        → IsSure p v w k fs ended over (Differs number e (Stops Far) own)
+    far_sure ended over place at far own first = stays_sure ended over (Stops Far) own (λ more. (
       place_of e place rest.edges.items at more,
       subst (λ m. most_passed < m) (sym (before_count e place rest.edges.items at)) far,
-    ))
+    )) (first_there place at own first)
 
     module _ (place : ℕ) (at : IsAt e place rest.edges.items) (near : place ≤ most_passed)
         (stop : Option Stop)
@@ -166,11 +178,13 @@ module _ (p : Plan) (v w : Version) (k : Numbered) (fs : List Edge) where
       goes = back v p ready.taken ready.state ready.legal
 
       pub stops_sure : (ended over : Bool) (met : Stop) → stop ≡ Some met
-          → IsSure p v w k fs ended over (Differs number e (Stops met))
-      stops_sure ended over met meets = stays_sure ended over (Stops met) (λ more.
+          → (own : Option (ℕ × Edge)) → IsFirstOf e.driver (numbers rest.edges.items) own
+          → IsSure p v w k fs ended over (Differs number e (Stops met) own)
+      stops_sure ended over met meets own first = stays_sure ended over (Stops met) own (λ more.
           stays_by v p e ready.taken (more ++ numbers rest.edges.items) met
           (place_of e place rest.edges.items at more) within
           (subst (GoesBack v p e ready.taken (numbers at.before)) meets goes))
+          (first_there place at own first)
 
       -- it comes to the front, and is taken out
       module _ (after : Rest) (none : stop ≡ None)
@@ -230,37 +244,46 @@ module _ (p : Plan) (v w : Version) (k : Numbered) (fs : List Edge) where
 
   -- ---- an edge that is none of those that are left
 
-  module _ (e : Edge) (taken left : Numbered) (n number : ℕ) (next : List Edge)
-      (is : number ≡ n + 1) (missing : IsMissing e left)
-      (leads : Leads p v w k fs taken left n (e ∷ next)) where
+  module _ (sought : Sought) (taken left : Numbered) (n : ℕ) (next : List Edge)
+      (is : sought.number ≡ n + 1) (missing : IsMissing sought.edge left)
+      (own : IsFirstOf sought.edge.driver left sought.own)
+      (leads : Leads p v w k fs taken left n (sought.edge ∷ next)) where
     pub missing_sure : (ended over : Bool) → ended ≡ true
-        → IsSure p v w k fs ended over (Differs number e Missing)
+        → IsSure p v w k fs ended over (Differs sought.number sought.edge Missing sought.own)
     missing_sure ended over ends more later first second =
-        leads more later (Differs number e Missing) (inl (
+        leads more later (Differs sought.number sought.edge Missing sought.own) (inl (
           Missing,
-          subst (λ l. IsMissing e (l ++ left)) (sym (first ends)) missing,
-          ap (λ m. Differs m e Missing) is,
+          sought.own,
+          subst (λ l. IsMissing sought.edge (l ++ left)) (sym (first ends)) missing,
+          subst (λ l. IsFirstOf sought.edge.driver (l ++ left) sought.own) (sym (first ends)) own,
+          ap (λ m. Differs m sought.edge Missing sought.own) is,
         ))
 
-    pub sought : most_passed < length left → IsSought p v w k fs number e
-    sought many = record {
+    pub is_sought : most_passed < length left → IsSought p v w k fs sought
+    is_sought many = record {
       taken = taken;
       left = left;
       next = next;
       count = n;
       number = is;
       missing = missing;
+      own = own;
       leads = leads;
       many = many;
     }
 
-  module _ (number : ℕ) (e : Edge) (seeks : IsSought p v w k fs number e) (m : ℕ) (a : Edge) where
-    pub sought_far : (ended over : Bool) → a ≡ e
-        → IsSure p v w ((m, a) ∷ k) fs ended over (Differs number e (Stops Far))
+  module _ (sought : Sought) (seeks : IsSought p v w k fs sought) (m : ℕ) (a : Edge)
+      (own : Option (ℕ × Edge))
+      (firsts : (left : Numbered) → IsFirstOf sought.edge.driver left sought.own
+      → IsFirstOf sought.edge.driver ((m, a) ∷ left) own) where
+    pub sought_far : (ended over : Bool) → a ≡ sought.edge
+        → IsSure p v w ((m, a) ∷ k) fs ended over (Differs sought.number sought.edge (Stops Far) own)
     sought_far ended over same more later first second =
-        leads_more seeks.taken seeks.left seeks.count (e ∷ seeks.next) seeks.leads (m, a)
-        more later (Differs number e (Stops Far)) (inl (
+        let left = (m, a) ∷ seeks.left in
+        leads_more seeks.taken seeks.left seeks.count (sought.edge ∷ seeks.next) seeks.leads (m, a)
+        more later (Differs sought.number sought.edge (Stops Far) own) (inl (
           Stops Far,
+          own,
           (
             record {
               behind = more;
@@ -271,10 +294,14 @@ module _ (p : Plan) (v w : Version) (k : Numbered) (fs : List Edge) where
             },
             seeks.many,
           ),
-          ap (λ i. Differs i e (Stops Far)) seeks.number,
+          first_on sought.edge.driver more left own
+              (λ none. none.0 (ap (λ (b : Edge). b.driver) same)) (firsts seeks.left seeks.own),
+          ap (λ i. Differs i sought.edge (Stops Far) own) seeks.number,
         ))
 
-    pub sought_on : a ≢ e → IsSought p v w ((m, a) ∷ k) fs number e
+    pub sought_on : a ≢ sought.edge
+        → IsSought p v w ((m, a) ∷ k) fs
+        (record { number = sought.number; edge = sought.edge; own = own })
     sought_on other =
         let many = seeks.many in
         record {
@@ -284,20 +311,22 @@ module _ (p : Plan) (v w : Version) (k : Numbered) (fs : List Edge) where
           count = seeks.count;
           number = seeks.number;
           missing = (other, seeks.missing);
-          leads = leads_more seeks.taken seeks.left seeks.count (e ∷ seeks.next) seeks.leads (m, a);
+          own = firsts seeks.left seeks.own;
+          leads = leads_more seeks.taken seeks.left seeks.count (sought.edge ∷ seeks.next) seeks.leads (m, a);
           many = omega (arith, many);
         }
 
-  pub sought_later : (number : ℕ) (e a : Edge) → IsSought p v w k fs number e
-      → IsSought p v w k (fs ++ a ∷ []) number e
-  sought_later number e a seeks = record {
+  pub sought_later : (sought : Sought) (a : Edge) → IsSought p v w k fs sought
+      → IsSought p v w k (fs ++ a ∷ []) sought
+  sought_later sought a seeks = record {
     taken = seeks.taken;
     left = seeks.left;
     next = seeks.next ++ a ∷ [];
     count = seeks.count;
     number = seeks.number;
     missing = seeks.missing;
-    leads = leads_later seeks.taken seeks.left seeks.count (e ∷ seeks.next) seeks.leads a;
+    own = seeks.own;
+    leads = leads_later seeks.taken seeks.left seeks.count (sought.edge ∷ seeks.next) seeks.leads a;
     many = seeks.many;
   }
 
@@ -353,7 +382,7 @@ module _ (p : Plan) (v w : Version) (k : Numbered) (fs : List Edge) where
         (subst (λ l. Compares v p ready.taken (more ++ numbers rest.edges.items) n l found) end over)
 
     module _ (behind : List Left) (x : Left) (is : rest.edges.items ≡ behind ++ x ∷ []) where
-      left_over : (more : Numbered) → IsOver n (more ++ numbers rest.edges.items) (Differs x.number x.edge why.Left)
+      left_over : (more : Numbered) → IsOver n (more ++ numbers rest.edges.items) (Leaves x.number x.edge)
       left_over more = inr (
         more ++ numbers behind,
         x.number,
@@ -364,13 +393,13 @@ module _ (p : Plan) (v w : Version) (k : Numbered) (fs : List Edge) where
       )
 
       pub left_sure : (ended over : Bool) → over ≡ true
-          → IsSure p v w k fs ended over (Differs x.number x.edge why.Left)
+          → IsSure p v w k fs ended over (Leaves x.number x.edge)
       left_sure ended over ends more later first second =
-          leads_end more later (Differs x.number x.edge why.Left) (second ends) (left_over more)
+          leads_end more later (Leaves x.number x.edge) (second ends) (left_over more)
 
-      pub left_found : IsOutcome p v w k fs (Differs x.number x.edge why.Left)
-      left_found = subst (λ l. IsOutcome p v w k l (Differs x.number x.edge why.Left)) (append-nil fs)
-          (leads_end [] [] (Differs x.number x.edge why.Left) refl (left_over []))
+      pub left_found : IsOutcome p v w k fs (Leaves x.number x.edge)
+      left_found = subst (λ l. IsOutcome p v w k l (Leaves x.number x.edge)) (append-nil fs)
+          (leads_end [] [] (Leaves x.number x.edge) refl (left_over []))
 
     pub same_found : rest.edges.items ≡ [] → IsOutcome p v w k fs (Same n)
     same_found none = subst (λ l. IsOutcome p v w k l (Same n)) (append-nil fs)

@@ -8,7 +8,10 @@ pub mod Brought
 pub mod Leading
 -- `Matching`: both traces
 pub mod Running
+-- `write_found`: two lines that are written
+pub mod Written
 -- `compare`: two traces that were read
 pub mod Read
 -- the laws
 pub mod OneTrace
+pub mod OwnEdges

@@ -4,6 +4,7 @@ use Rattle.std.specs.Prelude.{◌⊎◌, ◌≢◌}
 use Rattle.std.specs.List.{remove}
 use Rattle.std.proofs.Math.ListN.{length-append}
 use Rattle.std.proofs.lemmas.List.{drop_all, length-drop}
+use Rattle.vme_model.specs.declared.signals.Driver.{Driver}
 use Rattle.vme_model.specs.declared.signals.Edge.{Edge}
 use Rattle.vme_model.specs.declared.signals.Version.{Version}
 use Rattle.vme_model.specs.Plan.{Plan}
@@ -15,7 +16,7 @@ use Rattle.vme_swaps.specs.Swaps.{IsFree}
 use Rattle.vme_races.specs.declared.walks.Stop.{Stop}
 use Rattle.vme_races.specs.Walks.{Meets}
 use Rattle.vme_same.specs.declared.edges.Left.{Left}
-use Rattle.vme_same.specs.Comparing.{GoesBack, IsMissing, IsPlace}
+use Rattle.vme_same.specs.Comparing.{GoesBack, HasNoneOf, IsFirstOf, IsMissing, IsPlace}
 use Rattle.vme_same.specs.Kept.{IsAt, numbers}
 
 pub numbers_append : (xs ys : List Left) → numbers (xs ++ ys) ≡ numbers xs ++ numbers ys
@@ -67,6 +68,67 @@ module _ (e : Edge) (xs : List Left) where
     count = length-drop (length xs - n) xs ∙ omega arith;
     first = missing;
   }
+
+-- ---- the search for the first edge of a driver
+
+module _ (d : Driver) (xs : List Left) where
+  pub none_of_yet : HasNoneOf d (numbers (drop (length xs - 0) xs))
+  none_of_yet = subst (λ l. HasNoneOf d (numbers l)) (sym (drop_all (length xs - 0) xs (omega arith))) tt
+
+  pub none_of_more : (n : ℕ) (x : Left) → drop (length xs - (n + 1)) xs ≡ x ∷ drop (length xs - n) xs
+      → x.edge.driver ≢ d → HasNoneOf d (numbers (drop (length xs - n) xs))
+      → HasNoneOf d (numbers (drop (length xs - (n + 1)) xs))
+  none_of_more n x is other before =
+      subst (λ l. HasNoneOf d (numbers l)) (sym is) (other, before)
+
+  pub none_of_there : (n : ℕ) → n ≡ length xs → HasNoneOf d (numbers (drop (length xs - n) xs))
+      → HasNoneOf d (numbers xs)
+  none_of_there n all none =
+      let first : length xs - n ≡ 0 = omega arith in
+      subst (λ m. HasNoneOf d (numbers (drop m xs))) first none
+
+  pub first_at : (n : ℕ) (x : Left) → drop (length xs - (n + 1)) xs ≡ x ∷ drop (length xs - n) xs
+      → x.edge.driver ≡ d → HasNoneOf d (numbers (drop (length xs - n) xs))
+      → IsFirstOf d (numbers xs) (Some (x.number, x.edge))
+  first_at n x is same none =
+      let m = length xs - (n + 1) in
+      let before = drop (length xs - n) xs in (
+        numbers (take m xs),
+        numbers before,
+        ap numbers (sym (take-append-drop m xs) ∙ ap (λ l. take m xs ++ l) is)
+            ∙ numbers_append (take m xs) (x ∷ before),
+        same,
+        none,
+      )
+
+-- if there is one, it stays the first when another edge comes behind
+pub first_kept : (d : Driver) (x y : ℕ × Edge) (left : Numbered) (own : Option (ℕ × Edge))
+    → own ≡ Some y → IsFirstOf d left own → IsFirstOf d (x ∷ left) own
+first_kept d x y left None is first = absurd (cc)
+first_kept d x y left (Some (n, a)) is first =
+    (x ∷ first.0, first.1, ap (λ l. x ∷ l) first.2, first.3, first.4)
+
+pub first_new : (d : Driver) (n : ℕ) (a : Edge) (left : Numbered) → a.driver ≡ d → HasNoneOf d left
+    → IsFirstOf d ((n, a) ∷ left) (Some (n, a))
+first_new d n a left same none = ([], left, refl, same, none)
+
+-- it stays the first one, whatever comes behind, if there is one
+pub first_on : (d : Driver) (more left : Numbered) (own : Option (ℕ × Edge))
+    → (HasNoneOf d left → ⊥) → IsFirstOf d left own → IsFirstOf d (more ++ left) own
+first_on d more left None some first = absurd (some first)
+first_on d more left (Some (n, a)) some first = (
+  more ++ first.0,
+  first.1,
+  ap (λ l. more ++ l) first.2 ∙ sym (append_assoc more first.0 ((n, a) ∷ first.1)),
+  first.3,
+  first.4,
+)
+
+-- the driver of an edge that is left has one
+pub has_some : (behind : Numbered) (n : ℕ) (a : Edge) (before : Numbered)
+    → HasNoneOf a.driver (behind ++ (n, a) ∷ before) → ⊥
+has_some [] n a before none = none.0 refl
+has_some (x ∷ behind) n a before none = has_some behind n a before none.1
 
 -- ---- what stands before an edge, and the list without it
 

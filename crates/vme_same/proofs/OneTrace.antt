@@ -42,7 +42,7 @@ module _ (v : Version) (p : Plan) (m : ℕ) where
     all = ap length over.0;
   }
   all_taken taken left n [] (inr over) = (let is = over.4 in absurd (cc))
-  all_taken taken left n (e ∷ fs) (inl stays) = (let is = stays.2 in absurd (cc))
+  all_taken taken left n (e ∷ fs) (inl stays) = (let is = stays.4 in absurd (cc))
   all_taken taken left n (e ∷ fs) (inr comes) =
       let place = comes.0 in
       let others = all_taken ((place.number, e) ∷ taken) (place.behind ++ place.before) (n + 1) fs comes.3 in

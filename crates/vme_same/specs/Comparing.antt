@@ -4,6 +4,7 @@
 -- Edges that were taken, those that are left and those before an edge have the newest one first.
 use Rattle.std.specs.Prelude.{◌≡◌, ◌≢◌, ◌⊎◌, ◌<◌, ◌≤◌, ◌+◌, ◌++◌, ◌∷◌, [], ℕ, true, false, List, length, Option, Some, None}
 use Rattle.vme_model.specs.declared.refusals.Refused.{Refused}
+use Rattle.vme_model.specs.declared.signals.Driver.{Driver}
 use Rattle.vme_model.specs.declared.signals.Version.{Version}
 use Rattle.vme_model.specs.declared.signals.Edge.{Edge}
 use Rattle.vme_model.specs.Plan.{Plan}
@@ -15,14 +16,26 @@ use Rattle.vme_races.specs.declared.walks.Stop.{Stop}
 use Rattle.vme_races.specs.declared.walks.Stop.TheVariants.{Far}
 use Rattle.vme_races.specs.Walks.{Meets, most_passed}
 use Rattle.vme_same.specs.declared.comparisons.Why.{Why}
-use Rattle.vme_same.specs.declared.comparisons.Why.TheVariants.{Missing, Left, Stops}
+use Rattle.vme_same.specs.declared.comparisons.Why.TheVariants.{Missing, Stops}
 use Rattle.vme_same.specs.declared.comparisons.Comparison.{Comparison}
-use Rattle.vme_same.specs.declared.comparisons.Comparison.TheVariants.{Same, Refuses, OtherVersion, Differs}
+use Rattle.vme_same.specs.declared.comparisons.Comparison.TheVariants.{Same, Refuses, OtherVersion, Differs, Leaves}
 
 -- none of these is the edge e
 abbrev pub IsMissing : Edge → Numbered → Type 0
 IsMissing e [] = Unit {0}
 IsMissing e ((n, a) ∷ k) = (a ≢ e) × IsMissing e k
+
+-- none of these is an edge of the driver d
+abbrev pub HasNoneOf : Driver → Numbered → Type 0
+HasNoneOf d [] = Unit {0}
+HasNoneOf d ((n, a) ∷ k) = (a.driver ≢ d) × HasNoneOf d k
+
+-- the first edge of the driver d of what is left; None if it has none
+abbrev pub IsFirstOf : Driver → Numbered → Option (ℕ × Edge) → Type 0
+IsFirstOf d left None = HasNoneOf d left
+IsFirstOf d left (Some (n, a)) =
+    (behind : Numbered) × (before : Numbered) × (left ≡ behind ++ (n, a) ∷ before)
+    × (a.driver ≡ d) × HasNoneOf d before
 
 -- the first edge of what is left that is e, and the edges before and behind it
 pub record IsPlace (e : Edge) (left : Numbered) : Type 0 where
@@ -44,7 +57,6 @@ GoesBack v p e taken ((n, a) ∷ before) stop =
 -- why the edge e does not come to the front of what is left
 abbrev pub StaysBack : Version → Plan → Edge → Numbered → Numbered → Why → Type 0
 StaysBack v p e taken left Missing = IsMissing e left
-StaysBack v p e taken left Left = ⊥
 StaysBack v p e taken left (Stops Far) =
     (place : IsPlace e left) × (most_passed < length place.before)
 StaysBack v p e taken left (Stops met) =
@@ -56,14 +68,16 @@ abbrev pub IsOver : ℕ → Numbered → Comparison → Type 0
 IsOver n left found =
     ((left ≡ []) × (found ≡ Same n))
     ⊎ ((behind : Numbered) × (m : ℕ) × (a : Edge) × (left ≡ behind ++ (m, a) ∷ [])
-    × (found ≡ Differs m a Left))
+    × (found ≡ Leaves m a))
 
--- what is found if these edges of the second trace come next, behind n others
+-- What is found if these edges of the second trace come next, behind n others. With the edge that
+-- stays back comes the first edge of its driver that is left.
 abbrev pub Compares :
     Version → Plan → Numbered → Numbered → ℕ → List Edge → Comparison → Type 0
 Compares v p taken left n [] found = IsOver n left found
 Compares v p taken left n (e ∷ es) found =
-    ((why : Why) × StaysBack v p e taken left why × (found ≡ Differs (n + 1) e why))
+    ((why : Why) × (own : Option (ℕ × Edge)) × StaysBack v p e taken left why
+    × IsFirstOf e.driver left own × (found ≡ Differs (n + 1) e why own))
     ⊎ ((place : IsPlace e left) × (length place.before ≤ most_passed)
     × GoesBack v p e taken place.before None
     × Compares v p ((place.number, e) ∷ taken) (place.behind ++ place.before) (n + 1) es found)

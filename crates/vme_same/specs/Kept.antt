@@ -1,5 +1,5 @@
 -- What is kept of two traces so far.
-use Rattle.std.specs.Prelude.{◌≡◌, ◌+◌, ◌<◌, ◌≤◌, ◌++◌, ◌∷◌, ◌^◌, [], ℕ, Bool, true, false, List, length, map, None}
+use Rattle.std.specs.Prelude.{◌≡◌, ◌+◌, ◌<◌, ◌≤◌, ◌&&◌, ◌++◌, ◌∷◌, ◌^◌, [], ℕ, Bool, true, false, List, length, map, nat_le, not, None}
 use Rattle.vme_model.specs.declared.signals.Version.{Version}
 use Rattle.vme_model.specs.declared.signals.Edge.{Edge}
 use Rattle.vme_model.specs.Plan.{Plan}
@@ -15,12 +15,13 @@ use Rattle.vme_same.specs.declared.comparisons.Comparison.{Comparison}
 use Rattle.vme_same.specs.declared.matching.Matching.{Matching}
 use Rattle.vme_same.specs.declared.edges.Next.{Next}
 use Rattle.vme_same.specs.declared.progress.Pairing.{Pairing}
+use Rattle.vme_same.specs.declared.progress.Sought.{Sought}
 use Rattle.vme_same.specs.declared.progress.Progress.{Progress}
 use Rattle.vme_same.specs.declared.progress.Progress.TheVariants.{Open, Seeks, Finds}
 use Rattle.vme_same.specs.declared.edges.Left.{Left}
 use Rattle.vme_same.specs.declared.rest.Rest.{Rest}
 use Rattle.vme_same.specs.declared.sides.Side.{Side}
-use Rattle.vme_same.specs.Comparing.{Compares, IsMissing, IsOutcome}
+use Rattle.vme_same.specs.Comparing.{Compares, IsFirstOf, IsMissing, IsOutcome}
 
 -- ---- a trace
 
@@ -80,15 +81,16 @@ pub record IsOpen
 
 -- this edge is looked for, and more edges are left than it may pass
 pub record IsSought
-    (p : Plan) (v w : Version) (k : Numbered) (fs : List Edge) (n : ℕ) (e : Edge)
+    (p : Plan) (v w : Version) (k : Numbered) (fs : List Edge) (sought : Sought)
     : Type 0 where
   pub taken : Numbered
   pub left : Numbered
   pub next : List Edge
   pub count : ℕ
-  pub number : n ≡ count + 1
-  pub missing : IsMissing e left
-  pub leads : Leads p v w k fs taken left count (e ∷ next)
+  pub number : sought.number ≡ count + 1
+  pub missing : IsMissing sought.edge left
+  pub own : IsFirstOf sought.edge.driver left sought.own
+  pub leads : Leads p v w k fs taken left count (sought.edge ∷ next)
   pub many : most_passed < length left
 
 -- whatever comes, this is found; nothing more comes of a trace that has ended
@@ -102,8 +104,8 @@ abbrev pub GoesBy :
     Plan → Version → Version → Numbered → List Edge → Bool → Bool → List Next → Rest → ℕ
     → Progress → Type 0
 GoesBy p v w k fs ended over next rest n Open = IsOpen p v w k fs (edges_of next) rest n
-GoesBy p v w k fs ended over next rest n (Seeks m e) =
-    (ended ≡ false) × IsSought p v w k fs m e
+GoesBy p v w k fs ended over next rest n (Seeks sought) =
+    (ended ≡ false) × IsSought p v w k fs sought
 GoesBy p v w k fs ended over next rest n (Finds found) = IsSure p v w k fs ended over found
 
 abbrev pub Goes :
@@ -131,6 +133,11 @@ abbrev pub IsIdle : Pairing → Type 0
 IsIdle now = now.progress ≡ Open → now.has_ended ≡ true → now.waiting.items ≡ []
 
 -- ---- both traces
+
+-- the first trace goes on, and no more edges of it are left than an edge may pass
+abbrev pub lacks_first : Matching → Bool
+lacks_first now =
+    not now.pairing.has_ended && nat_le (length now.pairing.rest.edges.items) most_passed
 
 -- The edges es of the first trace and fs of the second one were taken in; whether each has ended.
 pub record Runs

@@ -3,13 +3,11 @@
 use vme_model::{Edge, Refused};
 use vme_races::Stop;
 
-/// Why an edge keeps two traces from being the same.
+/// Why an edge of the second trace keeps it from being the same as the first.
 #[derive(Clone, Copy, PartialEq, Eq, Debug)]
 pub enum Why {
     /// No such edge is left of the first trace.
     Missing,
-    /// The second trace is at its end, and this edge of the first one is left.
-    Left,
     /// The edge does not come to the front of what is left of the first trace. It is far, or waits
     /// for another edge there, or races with it.
     Stops(Stop),
@@ -30,11 +28,18 @@ pub enum Comparison {
     },
     /// The traces are of different versions.
     OtherVersion,
-    /// An edge keeps them from being the same. It is one of the second trace, with its number
-    /// there; but one that is left is of the first.
+    /// This edge of the second trace, with its number there, keeps them from being the same.
     Differs {
         number: u64,
         edge: Edge,
         why: Why,
+        /// The first edge of its driver that is left of the first trace, with its number there.
+        own: Option<(u64, Edge)>,
+    },
+    /// The second trace is at its end, and this is the first edge that is left of the first one,
+    /// with its number there.
+    Leaves {
+        number: u64,
+        edge: Edge,
     },
 }

@@ -3,7 +3,7 @@ ghost use Rattle.std.specs.Prelude.{◌≡◌, IsTrue, true};
 ghost use Rattle.vme_model.specs.Signals.{is_well_formed};
 ghost use Rattle.vme_same.specs.Formed.{is_formed_found};
 
-use crate::comparisons::{Comparison, Why};
+use crate::comparisons::Comparison;
 use vme_model::Edge;
 
 /// An edge that is left of the first trace, with its number there.
@@ -23,14 +23,13 @@ pub(crate) struct Next {
 
 impl Left {
     /// That the edge is left when the second trace is over.
-    pub(crate) fn differs(&self) -> Comparison
-        ensures found { result ≡ Comparison.Differs self.now.number self.now.edge Why.Left }
+    pub(crate) fn leaves(&self) -> Comparison
+        ensures found { result ≡ Comparison.Leaves self.now.number self.now.edge }
         ensures formed { IsTrue (is_formed_found result) }
     {
-        Comparison::Differs {
+        Comparison::Leaves {
             number: self.number,
             edge: self.edge,
-            why: Why::Left,
         }
     }
 }

@@ -6,11 +6,11 @@ ghost use Rattle.vme_engines.specs.Pairs.{LentPair, ReadsPair};
 ghost use Rattle.vme_engines.specs.Streams.{ReadNothing, streams};
 ghost use Rattle.vme_same.specs.Comparing.{IsComparison};
 ghost use Rattle.vme_same.specs.Formed.{is_formed_found};
-ghost use Rattle.vme_same.specs.Kept.{Stands};
-ghost use Rattle.vme_same.specs.Lines.{found_line};
+ghost use Rattle.vme_same.specs.Kept.{Stands, lacks_first};
+ghost use Rattle.vme_same.specs.Lines.{found_lines};
 
 use crate::comparisons::Comparison;
-use crate::lines::line_of;
+use crate::lines::{first_line_of, second_line_of};
 use crate::matching::Matching;
 use std::alloc::Global;
 use std::io::{Read, Write};
@@ -32,7 +32,9 @@ impl Pair for Matching {
         Matching::new(*task, &plan, first, second)
     }
 
-    fn wants_first(&self) -> bool {
+    fn wants_first(&self) -> bool
+        ensures { result ≡ lacks_first self.now }
+    {
         self.lacks_first()
     }
 
@@ -58,8 +60,8 @@ impl Pair for Matching {
 ///
 /// Both are read to their ends, whatever is found. One edge of the second trace after another comes
 /// to the front of what is left of the first one, by free swaps with the edge before it, past at
-/// most 200. If one does not, it is reported with what stops it. Of each trace it makes at most
-/// 16,777,216 reads.
+/// most 200. If one does not, it is reported with what stops it, and with the first edge of its
+/// driver that is left. Of each trace it makes at most 16,777,216 reads.
 ///
 /// # Errors
 /// F2, the faults of the scenario and F3, before anything is read. X1 to X6 of the first trace. X1
@@ -80,20 +82,23 @@ pub fn compare<A: Read, B: Read>(
     Ok(matching.outcome())
 }
 
-/// Writes what is found of two traces on a line, and has the writer hand on what it holds back. Of
-/// a refusal it writes only what comes behind the name of the file.
+/// Writes what is found of two traces on a line, and has the writer hand on what it holds back. If
+/// an edge of the second trace differs, a second line has what the first one has of its driver. Of a
+/// refusal it writes only what comes behind the name of the file.
 ///
 /// # Errors
-/// X8 if the output cannot be written; then a prefix of the line was written.
+/// X8 if the output cannot be written; then a prefix of the lines was written.
 pub fn write_found<W: Write>(found: Comparison, out: &mut W) -> Result<(), Fault>
     requires { IsTrue (is_formed_found found) }
     ensures ok { OnOk result
-        (Appends (W.contents out.old) (W.contents out.new) (found_line found)) }
+        (Appends (W.contents out.old) (W.contents out.new) (found_lines found)) }
     ensures front { OnErr result
-        (AppendsFront (W.contents out.old) (W.contents out.new) (found_line found)) }
+        (AppendsFront (W.contents out.old) (W.contents out.new) (found_lines found)) }
     ensures fault { IfErr result (λ fault. fault ≡ Fault.Write) }
 {
-    let line = line_of(&found);
-    put(out, line.as_slice())?;
+    let first = first_line_of(&found);
+    let second = second_line_of(&found);
+    put(out, first.as_slice())?;
+    put(out, second.as_slice())?;
     flush(out)
 }

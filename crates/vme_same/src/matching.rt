@@ -7,7 +7,7 @@ ghost use Rattle.vme_model.specs.Plan.{Plan as PlanValue};
 ghost use Rattle.vme_model.specs.Signals.{is_well_formed};
 ghost use Rattle.vme_same.specs.Comparing.{IsComparison};
 ghost use Rattle.vme_same.specs.Formed.{is_formed_found};
-ghost use Rattle.vme_same.specs.Kept.{Runs, Stands};
+ghost use Rattle.vme_same.specs.Kept.{Runs, Stands, lacks_first};
 
 use crate::comparisons::Comparison;
 use crate::progress::Pairing;
@@ -42,7 +42,9 @@ impl Matching {
 
     /// Whether the next edges to take are those of the first trace: it goes on, and at most 200 of
     /// its edges are left.
-    pub(crate) fn lacks_first(&self) -> bool {
+    pub(crate) fn lacks_first(&self) -> bool
+        ensures { result ≡ lacks_first self.now }
+    {
         self.pairing.wants_first()
     }
 

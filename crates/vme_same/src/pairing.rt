@@ -7,13 +7,13 @@ ghost use Rattle.vme_model.specs.Plan.{Plan as PlanValue};
 ghost use Rattle.vme_model.specs.Signals.{is_well_formed};
 ghost use Rattle.vme_model.specs.Verdict.{IsLegal};
 ghost use Rattle.vme_races.specs.Walks.{most_passed};
-ghost use Rattle.vme_same.specs.Comparing.{IsMissing, IsOutcome};
-ghost use Rattle.vme_same.specs.Formed.{is_formed_found, is_formed_progress};
+ghost use Rattle.vme_same.specs.Comparing.{IsFirstOf, IsMissing, IsOutcome};
+ghost use Rattle.vme_same.specs.Formed.{is_formed_found, is_formed_progress, is_formed_sought};
 ghost use Rattle.vme_same.specs.Kept.{Goes, IsAmple, IsAt, IsGoing, IsIdle, IsOpen, Leads, OfGoing, edges_of};
 
 use crate::comparisons::{Comparison, Why};
 use crate::edges::Next;
-use crate::progress::{Pairing, Progress};
+use crate::progress::{Pairing, Progress, Sought};
 use crate::rest::{Rest, is_same};
 use std::alloc::Global;
 use std::collections::VecDeque;
@@ -84,6 +84,7 @@ impl Pairing {
                 number,
                 edge: *edge,
                 why: Why::Stops(stop),
+                own: self.rest.first_of(edge.driver),
             }),
             None => {
                 self.rest.take(edge, place);
@@ -93,28 +94,27 @@ impl Pairing {
         }
     }
 
-    /// What comes of an edge of the second trace, which has this number and is none of those that
-    /// are left.
-    fn miss(&self, number: u64, edge: &Edge) -> Progress
-        requires { is_well_formed edge.now ≡ true }
+    /// What comes of an edge of the second trace that is none of those that are left.
+    fn miss(&self, sought: &Sought) -> Progress
+        requires { is_formed_sought sought.now ≡ true }
         ensures going { (p : PlanValue) (v w : VersionValue) (k : Numbered) (fs : List EdgeValue)
-            (taken left : Numbered) (n : ℕ) (next : List EdgeValue) → number ≡ n + 1
-            → IsMissing edge.now left → Leads p v w k fs taken left n (edge.now ∷ next)
+            (taken left : Numbered) (n : ℕ) (next : List EdgeValue) → sought.now.number ≡ n + 1
+            → IsMissing sought.now.edge left
+            → IsFirstOf sought.now.edge.driver left sought.now.own
+            → Leads p v w k fs taken left n (sought.now.edge ∷ next)
             → (self.now.has_ended ≡ false → most_passed < length left)
             → Goes p v w k fs self.now result }
         ensures formed { is_formed_progress result ≡ true }
     {
         if self.has_ended {
             Progress::Finds(Comparison::Differs {
-                number,
-                edge: *edge,
+                number: sought.number,
+                edge: sought.edge,
                 why: Why::Missing,
+                own: sought.own,
             })
         } else {
-            Progress::Seeks {
-                number,
-                edge: *edge,
-            }
+            Progress::Seeks(*sought)
         }
     }
 
@@ -132,13 +132,18 @@ impl Pairing {
     {
         let number = self.taken.saturating_add(1);
         match self.rest.find(edge) {
-            None => self.miss(number, edge),
+            None => self.miss(&Sought {
+                number,
+                edge: *edge,
+                own: self.rest.first_of(edge.driver),
+            }),
             Some(place) => {
                 if place > MOST_PASSED {
                     return Progress::Finds(Comparison::Differs {
                         number,
                         edge: *edge,
                         why: Why::Stops(Stop::Far),
+                        own: self.rest.first_of(edge.driver),
                     });
                 }
                 self.bring(number, edge, place)
@@ -155,7 +160,7 @@ impl Pairing {
     {
         match self.progress {
             Progress::Open => !self.waiting.is_empty() && !self.wants_first(),
-            Progress::Seeks { .. } | Progress::Finds(_) => false,
+            Progress::Seeks(_) | Progress::Finds(_) => false,
         }
     }
 
@@ -200,10 +205,10 @@ impl Pairing {
         match self.progress {
             Progress::Open => {
                 if let Some(left) = self.rest.front() {
-                    self.progress = Progress::Finds(left.differs());
+                    self.progress = Progress::Finds(left.leaves());
                 }
             }
-            Progress::Seeks { .. } | Progress::Finds(_) => {}
+            Progress::Seeks(_) | Progress::Finds(_) => {}
         }
     }
 
@@ -219,24 +224,28 @@ impl Pairing {
     }
 
     /// What comes of an edge of the first trace while an edge of the second one is looked for.
-    fn seek(&self, edge: &Edge, number: u64, sought: &Edge) -> Progress
-        requires { is_well_formed sought.now ≡ true }
+    fn seek(&self, number: u64, edge: &Edge, sought: &Sought) -> Progress
+        requires formed { is_well_formed edge.now ≡ true }
+        requires sought { is_formed_sought sought.now ≡ true }
         ensures going { (p : PlanValue) (v w : VersionValue) (k : Numbered) (fs : List EdgeValue)
-            (m : ℕ) → Goes p v w k fs self.now (Progress.Seeks number sought.now)
-            → Goes p v w ((m, edge.now) ∷ k) fs self.now result }
+            → Goes p v w k fs self.now (Progress.Seeks sought.now)
+            → Goes p v w ((number, edge.now) ∷ k) fs self.now result }
         ensures formed { is_formed_progress result ≡ true }
     {
-        if is_same(edge, sought) {
+        let own = sought.own_with(number, edge);
+        if is_same(edge, &sought.edge) {
             Progress::Finds(Comparison::Differs {
-                number,
-                edge: *sought,
+                number: sought.number,
+                edge: sought.edge,
                 why: Why::Stops(Stop::Far),
+                own,
             })
         } else {
-            Progress::Seeks {
-                number,
-                edge: *sought,
-            }
+            Progress::Seeks(Sought {
+                number: sought.number,
+                edge: sought.edge,
+                own,
+            })
         }
     }
 
@@ -255,11 +264,8 @@ impl Pairing {
     {
         match self.progress {
             Progress::Open => self.rest.push(number, edge),
-            Progress::Seeks {
-                number: of_second,
-                edge: sought,
-            } => {
-                self.progress = self.seek(edge, of_second, &sought);
+            Progress::Seeks(sought) => {
+                self.progress = self.seek(number, edge, &sought);
                 Ok(())
             }
             Progress::Finds(_) => Ok(()),
@@ -283,7 +289,7 @@ impl Pairing {
                 Ok(()) => Ok(()),
                 Err(_) => Err(Fault::Memory),
             },
-            Progress::Seeks { .. } => Ok(()),
+            Progress::Seeks(_) => Ok(()),
             Progress::Finds(_) => Ok(()),
         }
     }
@@ -296,7 +302,7 @@ impl Pairing {
     {
         self.has_ended = true;
         match self.progress {
-            Progress::Seeks { number, edge } => self.progress = self.miss(number, &edge),
+            Progress::Seeks(sought) => self.progress = self.miss(&sought),
             Progress::Open | Progress::Finds(_) => {}
         }
     }
@@ -319,14 +325,15 @@ impl Pairing {
         match self.progress {
             Progress::Finds(found) => found,
             // Never: the first trace has ended.
-            Progress::Seeks { number, edge } => Comparison::Differs {
-                number,
-                edge,
+            Progress::Seeks(sought) => Comparison::Differs {
+                number: sought.number,
+                edge: sought.edge,
                 why: Why::Missing,
+                own: sought.own,
             },
             Progress::Open => match self.rest.front() {
                 None => Comparison::Same { edges: self.taken },
-                Some(left) => left.differs(),
+                Some(left) => left.leaves(),
             },
         }
     }

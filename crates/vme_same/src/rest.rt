@@ -11,14 +11,15 @@ ghost use Rattle.vme_races.specs.declared.walks.Stop.{Stop as StopValue};
 ghost use Rattle.vme_races.specs.Formed.{is_formed};
 ghost use Rattle.vme_races.specs.Walks.{Meets};
 ghost use Rattle.vme_same.specs.declared.edges.Left.{Left as LeftValue};
-ghost use Rattle.vme_same.specs.Comparing.{GoesBack, IsMissing};
+ghost use Rattle.vme_same.specs.Comparing.{GoesBack, IsFirstOf, IsMissing};
+ghost use Rattle.vme_same.specs.Formed.{is_formed_own};
 ghost use Rattle.vme_same.specs.Kept.{IsAt, numbers};
 
 use crate::edges::Left;
 use std::alloc::Global;
 use std::collections::VecDeque;
 use vme_bus::BusState;
-use vme_model::{Edge, Version};
+use vme_model::{Driver, Edge, Version};
 use vme_races::Stop;
 use vme_slots::Plan;
 use vme_swaps::{StepBack, step_back};
@@ -42,6 +43,14 @@ pub(crate) fn is_same(edge: &Edge, other: &Edge) -> bool
         && edge.wire == other.wire
         && edge.fall == other.fall
         && edge.value == other.value
+}
+
+/// Whether the edge is one of this driver.
+pub(crate) fn is_of(edge: &Edge, driver: Driver) -> bool
+    ensures same { result ≡ true → edge.now.driver ≡ driver }
+    ensures apart { result ≡ false → edge.now.driver ≢ driver }
+{
+    edge.driver == driver
 }
 
 /// What stops an edge on its way back over these and one more, the newest of them. The state before
@@ -114,6 +123,20 @@ impl Rest {
         for place in 0..self.edges.len() {
             if is_same(&self.at(place).edge, edge) {
                 return Some(place);
+            }
+        }
+        None
+    }
+
+    /// The first edge of this driver that is left, with its number in the trace. None if none is.
+    pub(crate) fn first_of(&self, driver: Driver) -> Option<(u64, Edge)>
+        ensures first { IsFirstOf driver (numbers self.now.edges.items) result }
+        ensures formed { IsTrue (is_formed_own result) }
+    {
+        for before in 0..self.edges.len() {
+            let left = self.at(before);
+            if is_of(&left.edge, driver) {
+                return Some((left.number, left.edge));
             }
         }
         None

@@ -12,7 +12,7 @@ use Rattle.vme_model.specs.declared.refusals.Refused.{Refused}
 use Rattle.vme_model.specs.declared.refusals.Refused.TheVariants.{NoSuchDriver, AlreadyThere, Rule, NotSettled, TraceFull}
 use Rattle.vme_goals.specs.declared.events.Event.{Event}
 use Rattle.vme_stories.specs.Replies.{Reply}
-use Rattle.vme_stories.specs.Alike.{is_same_answer, is_same_delivery, is_same_refusal, is_same_reply}
+use Rattle.vme_stories.specs.Alike.{is_same_answer, is_same_delivery, is_same_pick, is_same_refusal, is_same_reply}
 
 pub true_false : false ≡ true → ⊥
 true_false h = cc
@@ -112,9 +112,20 @@ event_self (x ∷ xs) =
     joined (sameb event_type x x) (pointwise (sameb event_type) xs xs)
     (true_same event_type x x refl) (event_self xs)
 
+picks : (a b : Option ℕ) → is_same_pick a b ≡ true → a ≡ b
+picks None None h = refl
+picks None (Some n) h = absurd (true_false h)
+picks (Some m) None h = absurd (true_false h)
+picks (Some m) (Some n) h = ap Some (equal m n h)
+
+pick_self : (a : Option ℕ) → is_same_pick a a ≡ true
+pick_self None = refl
+pick_self (Some n) = equal_self n
+
 same_parts : (t u : Reply) → t.answer ≡ u.answer → t.failing ≡ u.failing → t.level ≡ u.level
-    → t.events ≡ u.events → t ≡ u
-same_parts t u a f l e = (λ i. record { answer = a i; failing = f i; level = l i; events = e i })
+    → t.pick ≡ u.pick → t.events ≡ u.events → t ≡ u
+same_parts t u a f l p e =
+    (λ i. record { answer = a i; failing = f i; level = l i; pick = p i; events = e i })
 
 -- ---- the test decides
 
@@ -123,14 +134,16 @@ reply_alike t u h =
     let p = both (is_same_answer t.answer u.answer) _ h in
     let q = both (pointwise (sameb condition_type) t.failing u.failing) _ p.1 in
     let r = both (t.level == u.level) _ q.1 in
+    let s = both (is_same_pick t.pick u.pick) _ r.1 in
     same_parts t u (answers t.answer u.answer p.0) (conditions t.failing u.failing q.0)
-    (equal t.level u.level r.0) (events t.events u.events r.1)
+    (equal t.level u.level r.0) (picks t.pick u.pick s.0) (events t.events u.events s.1)
 
 reply_self : (t : Reply) → is_same_reply t t ≡ true
 reply_self t =
     joined (is_same_answer t.answer t.answer) _ (answer_self t.answer)
     (joined (pointwise (sameb condition_type) t.failing t.failing) _ (condition_self t.failing)
-    (joined (t.level == t.level) _ (equal_self t.level) (event_self t.events)))
+    (joined (t.level == t.level) _ (equal_self t.level)
+    (joined (is_same_pick t.pick t.pick) _ (pick_self t.pick) (event_self t.events))))
 
 pub alike_reply : (t u : Reply) → t ≡ u → is_same_reply t u ≡ true
 alike_reply t u h = subst (λ x. is_same_reply t x ≡ true) h (reply_self t)

@@ -1,5 +1,5 @@
 -- Whether the same is said twice, by a test.
-use Rattle.std.specs.Prelude.{◌==◌, ◌&&◌, Bool, true, false, Option, Some, None, Result, Ok, Err}
+use Rattle.std.specs.Prelude.{◌==◌, ◌&&◌, ℕ, Bool, true, false, Option, Some, None, Result, Ok, Err}
 use denote.Enum.Bare.{sameb}
 use lib.Pointwise.{pointwise}
 use Rattle.vme_model.specs.contracts.conditions.Condition.{the_type as condition_type}
@@ -30,8 +30,14 @@ is_same_answer (Ok d) (Ok f) = is_same_delivery d f
 is_same_answer (Err r) (Err s) = is_same_refusal r s
 is_same_answer _ _ = false
 
+abbrev pub is_same_pick : Option ℕ → Option ℕ → Bool
+is_same_pick None None = true
+is_same_pick (Some m) (Some n) = m == n
+is_same_pick _ _ = false
+
 abbrev pub is_same_reply : Reply → Reply → Bool
 is_same_reply t u =
     is_same_answer t.answer u.answer
     && (pointwise (sameb condition_type) t.failing u.failing
-    && ((t.level == u.level) && pointwise (sameb event_type) t.events u.events))
+    && ((t.level == u.level)
+    && (is_same_pick t.pick u.pick && pointwise (sameb event_type) t.events u.events)))

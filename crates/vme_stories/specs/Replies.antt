@@ -1,13 +1,14 @@
 -- What is said of an edge behind a list of edges. (Profile.)
-use Rattle.std.specs.Prelude.{ℕ, Bool, true, false, if◌then◌else◌, Option, Result, List, [], is_ok}
+use Rattle.std.specs.Prelude.{ℕ, Bool, true, false, if◌then◌else◌, Option, None, Result, List, [], is_ok}
 use Rattle.std.specs.List.{list_any}
 use Rattle.vme_model.specs.declared.conditions.Condition.{Condition}
-use Rattle.vme_model.specs.declared.conditions.Condition.TheVariants.{Pending, NotPending}
+use Rattle.vme_model.specs.declared.conditions.Condition.TheVariants.{Picked, Pending, NotPending}
 use Rattle.vme_model.specs.declared.deliveries.Delivery.{Delivery}
 use Rattle.vme_model.specs.declared.refusals.Refused.{Refused}
 use Rattle.vme_model.specs.declared.signals.Cycle.{Cycle}
 use Rattle.vme_model.specs.declared.signals.Edge.{Edge}
-use Rattle.vme_model.specs.History.{shown}
+use Rattle.vme_model.specs.History.{last_level, request_line, shown}
+use Rattle.vme_model.specs.Rules.{pick}
 use Rattle.vme_model.specs.Spoken.{level_of}
 use Rattle.vme_model.specs.Verdict.{State, verdict, kept}
 use Rattle.vme_model.specs.Deliveries.{answer}
@@ -25,12 +26,25 @@ names_shown c = false
 abbrev pub level_named : List Condition → Option Cycle → ℕ
 level_named cs v = if list_any names_shown cs then level_of v else 0
 
--- of a refused edge the verdict, and the conditions that it fails with the level that their texts
--- name; of an accepted one what it delivers and the situations that it brings about
+-- the condition is that the arbiter picks the level of a grant
+abbrev pub is_pick : Condition → Bool
+is_pick Picked = true
+is_pick c = false
+
+-- the level that the arbiter picks, if it picks one and any of the conditions speaks of it
+abbrev pub pick_named : List Condition → State → Option ℕ
+pick_named cs b =
+    if list_any is_pick cs
+    then pick b.plan.arbiter (request_line b.plan b.history) (last_level b.history) else None
+
+-- of a refused edge the verdict, the conditions that it fails with the level that their texts name,
+-- and what the arbiter picks in place of a grant; of an accepted one what it delivers and the
+-- situations that it brings about
 pub record Reply : Type 0 where
   pub answer : Result (Option Delivery) Refused
   pub failing : List Condition
   pub level : ℕ
+  pub pick : Option ℕ
   pub events : List Event
 
 -- the situations that an edge brings about if it is accepted
@@ -42,6 +56,7 @@ reply_at b e = record {
   answer = answer b e;
   failing = unmet b e;
   level = level_named (unmet b e) (shown b.plan b.history);
+  pick = pick_named (unmet b e) b;
   events = brought b e;
 }
 

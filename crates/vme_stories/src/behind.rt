@@ -9,7 +9,7 @@ ghost use Rattle.vme_explain.specs.Marked.{IsMarksOf};
 ghost use Rattle.vme_stories.specs.Leading.{LeadsTo};
 ghost use Rattle.vme_stories.specs.Replies.{reply_at};
 
-use crate::replies::{Reply, level_named};
+use crate::replies::{Reply, level_named, pick_named};
 use arrayvec::ArrayVec;
 use std::alloc::AllocError;
 use vme_bus::Bus;
@@ -82,11 +82,13 @@ pub(crate) fn reply_behind(bus: &mut Bus, made: &[Code], edge: Edge) -> Reply
     let answer = bus.answer(edge);
     let failing = bus.failing(edge);
     let level = level_named(failing.as_slice(), bus.shown());
+    let pick = pick_named(failing.as_slice(), bus);
     let events = events_behind(bus, made, edge, answer.is_ok());
     Reply {
         answer,
         failing,
         level,
+        pick,
         events,
     }
 }

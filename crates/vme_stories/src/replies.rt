@@ -2,23 +2,27 @@
 ghost use Rattle.std.specs.Prelude.{◌≡◌, ◌↔◌, IsTrue, Err};
 ghost use Rattle.std.specs.List.{list_any};
 ghost use Rattle.vme_model.specs.declared.refusals.Refused.TheVariants.{TraceFull};
-ghost use Rattle.vme_stories.specs.Alike.{is_same_answer, is_same_delivery, is_same_refusal, is_same_reply};
-ghost use Rattle.vme_stories.specs.Replies.{level_named, names_shown};
+ghost use Rattle.vme_stories.specs.Alike.{is_same_answer, is_same_delivery, is_same_pick, is_same_refusal, is_same_reply};
+ghost use Rattle.vme_stories.specs.Replies.{is_pick, level_named, names_shown, pick_named};
 
 use arrayvec::ArrayVec;
 use std::marker::Model;
+use vme_bus::Bus;
+use vme_explain::level_picked;
 use vme_goals::Event;
 use vme_model::{Condition, Cycle, Delivery, Refused};
 
 /// What is said of an edge: of a refused one the verdict and the conditions that it fails, with the
-/// level that their texts name; of an accepted one what it delivers and the situations that it
-/// brings about.
+/// level that their texts name, and what the arbiter picks in place of a grant; of an accepted one
+/// what it delivers and the situations that it brings about.
 #[derive(Drop)]
 pub(crate) struct Reply {
     pub(crate) answer: Result<Option<Delivery>, Refused>,
     pub(crate) failing: ArrayVec<Condition, 5>,
     /// The level of what is shown if the text of a condition names it, and otherwise 0.
     pub(crate) level: u8,
+    /// The level that the arbiter picks if a condition speaks of it, and none if it picks none.
+    pub(crate) pick: Option<u8>,
     pub(crate) events: ArrayVec<Event, 2>,
 }
 
@@ -31,6 +35,7 @@ impl Model for Reply {
       answer = t.answer;
       failing = t.failing.items;
       level = t.level;
+      pick = t.pick;
       events = t.events.items;
     } };
 }
@@ -56,6 +61,31 @@ pub(crate) fn level_named(failing: &[Condition], shown: Option<Cycle>) -> u8
     match shown {
         Some(Cycle::Acknowledge(level)) if any_names_shown(failing) => level,
         _ => 0,
+    }
+}
+
+/// Whether the condition is that the arbiter picks the level of a grant.
+fn is_pick(condition: Condition) -> bool
+    ensures { result ≡ is_pick condition }
+{
+    matches!(condition, Condition::Picked)
+}
+
+/// Whether any of the conditions is that the arbiter picks the level of a grant.
+fn any_is_pick(failing: &[Condition]) -> bool
+    ensures { result ≡ list_any is_pick failing.now }
+{
+    failing.iter().any(|condition| is_pick(*condition))
+}
+
+/// The level that the arbiter picks, if it picks one and any of the conditions speaks of it.
+pub(crate) fn pick_named(failing: &[Condition], bus: &Bus) -> Option<u8>
+    ensures { result ≡ pick_named failing.now bus.now }
+{
+    if any_is_pick(failing) {
+        level_picked(bus)
+    } else {
+        None
     }
 }
 
@@ -87,6 +117,13 @@ fn is_same_answer(
     }
 }
 
+/// Whether the same is picked.
+fn is_same_pick(pick: Option<u8>, other: Option<u8>) -> bool
+    ensures { result ≡ is_same_pick pick other }
+{
+    pick == other
+}
+
 impl Reply {
     /// Whether exactly the same is said.
     pub(crate) fn is_same(&self, other: &Reply) -> bool
@@ -95,6 +132,7 @@ impl Reply {
         is_same_answer(self.answer, other.answer)
             && self.failing.as_slice() == other.failing.as_slice()
             && self.level == other.level
+            && is_same_pick(self.pick, other.pick)
             && self.events.as_slice() == other.events.as_slice()
     }
 

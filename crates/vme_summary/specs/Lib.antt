@@ -9,5 +9,5 @@ pub mod Summary
 pub mod Sums
 -- words: which tally answered edges lead to
 pub mod Tallied
--- believe, for `add_trace` and `print_sums` of `vme_engines`: which sums tallies lead to
+-- believe, for sums over several traces: which sums tallies lead to
 pub mod Summed

@@ -47,13 +47,29 @@ const PLAIN: [Wire; 8] = [
 /// How many edges each history gets.
 const EDGES: u32 = 60;
 
-/// The histories: the version of the rules, the arbiter, and the first number of the draws.
-const HISTORIES: [(Version, ArbiterKind, u32); 4] = [
-    (Version::One, ArbiterKind::Pri, 1),
-    (Version::One, ArbiterKind::Rrs, 2),
-    (Version::Two, ArbiterKind::Pri, 3),
-    (Version::Two, ArbiterKind::Rrs, 4),
-];
+/// The histories of each arbiter: the version of the rules, and the first number of the draws.
+const HISTORIES: [(Version, u32); 2] = [(Version::One, 1), (Version::Two, 3)];
+
+/// More arbiters than there are.
+const MOST_ARBITERS: u32 = 16;
+
+/// The arbiter after this one, in the order of their kinds; none after the last. A new kind is not
+/// compiled until it has its place.
+fn following(arbiter: ArbiterKind) -> Option<ArbiterKind> {
+    match arbiter {
+        ArbiterKind::Sgl => Some(ArbiterKind::Pri),
+        ArbiterKind::Pri => Some(ArbiterKind::Rrs),
+        ArbiterKind::Rrs => None,
+    }
+}
+
+/// A level below 3 if the arbiter serves one, and otherwise 3.
+fn served_level(arbiter: ArbiterKind) -> u8 {
+    match arbiter {
+        ArbiterKind::Sgl => 3,
+        ArbiterKind::Pri | ArbiterKind::Rrs => 1,
+    }
+}
 
 /// Appends both edges of each of these wires.
 fn put_wires(edges: &mut Vec<Edge>, driver: Driver, wires: &[Wire]) -> Result<(), AllocError> {
@@ -122,7 +138,7 @@ fn six_slots(alloc: Global, arbiter: ArbiterKind) -> Result<Plan, Fail> {
     let rows = [
         first(),
         interrupting(requester(2, 3, 1), 4),
-        requester(3, 1, 2),
+        requester(3, served_level(arbiter), 2),
         interrupter(4, 4, 65),
         interrupting(requester(6, 3, 4), 7),
     ];
@@ -225,18 +241,14 @@ fn assert_alike(
     assert_same(rt, backplane.len(), EDGES);
 }
 
-fn judge(
-    rt: &impl Abort,
-    alloc: Global,
-    edges: &[Edge],
-    history: (Version, ArbiterKind, u32),
-) -> Result<(), Fail> {
-    let (version, arbiter, seed) = history;
-    let mut region = Region::new(alloc, Trace::bytes(EDGES))?;
-    let trace = Trace::on(alloc, &mut region.rest(), EDGES)?;
-    let mut backplane = Backplane::new(six_slots(alloc, arbiter)?, trace, version);
-    let mut bus = Bus::new(six_slots(alloc, arbiter)?, version);
-    assert_alike(rt, &mut backplane, &mut bus, edges, seed);
+fn judge(rt: &impl Abort, alloc: Global, edges: &[Edge], arbiter: ArbiterKind) -> Result<(), Fail> {
+    for (version, seed) in HISTORIES {
+        let mut region = Region::new(alloc, Trace::bytes(EDGES))?;
+        let trace = Trace::on(alloc, &mut region.rest(), EDGES)?;
+        let mut backplane = Backplane::new(six_slots(alloc, arbiter)?, trace, version);
+        let mut bus = Bus::new(six_slots(alloc, arbiter)?, version);
+        assert_alike(rt, &mut backplane, &mut bus, edges, seed);
+    }
     Ok(())
 }
 
@@ -244,8 +256,14 @@ fn judge(
 fn both_judges_answer_each_edge_alike(rt: HostRuntime) -> Result<(), Fail> {
     let edges = spellings(rt.alloc())?;
     assert_same(&rt, edges.len(), SPELLINGS);
-    for history in HISTORIES {
-        judge(&rt, rt.alloc(), edges.as_slice(), history)?;
+    let mut next = Some(ArbiterKind::Sgl);
+    for _judged in 0..MOST_ARBITERS {
+        let Some(arbiter) = next else {
+            return Ok(());
+        };
+        judge(&rt, rt.alloc(), edges.as_slice(), arbiter)?;
+        next = following(arbiter);
     }
+    assert!(rt; next.is_none());
     Ok(())
 }

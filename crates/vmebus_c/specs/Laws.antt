@@ -1,10 +1,13 @@
--- What holds of draws on all wires.
-use Rattle.std.specs.Prelude.{◌≡◌, ◌==◌, ◌<◌, ◌≤◌, ℕ, suc, true, false, Option, Some, None, List, [], length, slice_index}
+-- What holds of draws on all wires, and of the conditions that an edge fails.
+use Rattle.std.specs.Prelude.{◌≡◌, ◌==◌, ◌<◌, ◌≤◌, ℕ, suc, true, false, Option, Some, None, List, [], Result, Ok, Err, length, slice_index}
 use Rattle.vme_model.specs.declared.signals.Version.{Version}
 use Rattle.vme_model.specs.declared.signals.Edge.{Edge}
 use Rattle.vme_model.specs.Accepted.{IsAccepted}
 use Rattle.vme_model.specs.Plan.{Plan}
-use Rattle.vme_model.specs.Report.{at_power_up, trace_limit}
+use Rattle.vme_model.specs.declared.deliveries.Delivery.{Delivery}
+use Rattle.vme_model.specs.declared.refusals.Refused.{Refused}
+use Rattle.vme_model.specs.declared.refusals.Refused.TheVariants.{NoSuchDriver, AlreadyThere, Rule, NotSettled, TraceFull}
+use Rattle.vme_model.specs.Report.{at_power_up, trace_limit, verdict_text}
 use Rattle.vme_model.specs.Signals.{is_well_formed}
 use Rattle.vme_seeds.specs.declared.draws.Draws.{Draws}
 use Rattle.vme_seeds.specs.declared.kinds.Kind.{Kind}
@@ -14,10 +17,12 @@ use Rattle.vme_seeds.specs.Kinds.{has_board}
 use Rattle.vme_seeds.specs.Laws.{Follows}
 use Rattle.vme_seeds.specs.Numbers.{after_words, generator}
 use Rattle.vme_seeds.specs.Walks.{Walk, at_start, next_edge, walked}
+use Rattle.vmebus_c.specs.Asked.{failed_by}
 use Rattle.vmebus_c.specs.Named.{edge_of_word}
-use Rattle.vmebus_c.specs.Numbers.{edge_number}
+use Rattle.vmebus_c.specs.Numbers.{answer_number, delivered_number, edge_number}
 use Rattle.vmebus_c.specs.Played.{drawn_edge}
 use Rattle.vmebus_c.specs.Stepped.{followed}
+use Rattle.vmebus_c.specs.Verdicts.{is_rule, verdict_of_numbers}
 
 -- each of the 22 masks has the bits of all wires
 abbrev pub PlaysAll : List ℕ → Type 0
@@ -71,3 +76,24 @@ MakesTheWalk = (version : Version) (p : Plan) (wires : List ℕ) (seed : ℕ)
     → IsAccepted p → PlaysAll wires → IsBench version p wires seed histories draws
     → (n : ℕ) → n ≤ trace_limit
     → histories n ≡ (walked n (at_start (at_power_up version p trace_limit) seed)).state.history
+
+-- an answer that has a number: its rule is one of its kind, and what it delivers are bytes
+abbrev pub HasNumber : Result (Option Delivery) Refused → Type 0
+HasNumber (Ok None) = Unit {0}
+HasNumber (Ok (Some d)) =
+    (d.level < 128) × (d.handler < 256) × (d.answered_by < 256) × (d.status < 256)
+HasNumber (Err NoSuchDriver) = Unit {0}
+HasNumber (Err AlreadyThere) = Unit {0}
+HasNumber (Err (Rule k)) = is_rule 26 k ≡ true
+HasNumber (Err (NotSettled k)) = is_rule 4 k ≡ true
+HasNumber (Err TraceFull) = ⊥
+
+-- the numbers by which a step returns an answer spell it as `replay` does
+abbrev pub NumbersSpellAnswers : Type 0
+NumbersSpellAnswers = (a : Result (Option Delivery) Refused) → HasNumber a
+    → verdict_of_numbers (answer_number a) (delivered_number a) ≡ verdict_text a
+
+-- no edge fails more than five conditions, after whatever edges
+abbrev pub AtMostFiveFail : Type 0
+AtMostFiveFail = (version : Version) (p : Plan) (h : List Edge) (e : Option Edge)
+    → length (failed_by version p h e) ≤ 5

@@ -11,6 +11,8 @@ pub mod Numbers
 pub mod Conditions
 -- believe: what a scenario opens, or the number by which it is refused
 pub mod Opened
+-- words: the number of a fault that is on its way to C
+pub mod Faults
 -- believe: the answer to an edge that is named or spelled, and what the edge leaves
 pub mod Stepped
 -- believe: what a bus is asked without a step: failing conditions, open edges, wires
@@ -21,5 +23,7 @@ pub mod Rooms
 pub mod Played
 -- believe: that draws on all wires make the trace of `drive --seed`
 pub mod Laws
+-- believe: the text of an answer, by the numbers of a step
+pub mod Verdicts
 -- believe: what a build says of itself
 pub mod Built

@@ -1,5 +1,5 @@
 -- What is drawn for a bench that drives a part of the wires itself.
-use Rattle.std.specs.Prelude.{◌==◌, ◌&&◌, ◌≡◌, ◌<◌, ◌/◌, ◌%◌, ◌^◌, ℕ, Bool, Option, Some, None, List, filter, nat_lt, slice_index}
+use Rattle.std.specs.Prelude.{◌==◌, ◌&&◌, ◌≡◌, ◌<◌, ◌-◌, ◌/◌, ◌%◌, ◌^◌, ℕ, Bool, Option, Some, None, List, filter, nat_lt, slice_index}
 use Rattle.std.specs.List.{flat_map, Contains}
 use Rattle.vme_model.specs.declared.signals.Version.{Version}
 use Rattle.vme_model.specs.declared.signals.Edge.{Edge}
@@ -9,8 +9,8 @@ use Rattle.vme_model.specs.Text.{all_drivers}
 use Rattle.vme_histories.specs.Opens.{open_but_full}
 use Rattle.vme_seeds.specs.declared.draws.Draws.{Draws}
 use Rattle.vme_seeds.specs.declared.kinds.Kind.{Kind}
-use Rattle.vme_seeds.specs.Kinds.{has_board}
-use Rattle.vme_seeds.specs.Draws.{next_by, weight_of}
+use Rattle.vme_seeds.specs.Kinds.{has_board, kind_of}
+use Rattle.vme_seeds.specs.Draws.{made_of, next_by, weight_of}
 use Rattle.vmebus_c.specs.Numbers.{edge_number}
 
 -- the library plays the edge's wire: in the mask of its driver the bit of the wire is set, and the
@@ -46,3 +46,9 @@ drawn_number None = 0
 -- a number is that of one of these edges
 abbrev pub IsNumberIn : List Edge → ℕ → Type 0
 IsNumberIn es n = (e : Edge) × Contains es e × (n ≡ edge_number e)
+
+-- if the count of the edge's kind is at its greatest, no count changes; none changes none
+abbrev pub IsFullKept : (ℕ → Bool) → Option Edge → Draws → Draws → Type 0
+IsFullKept boards (Some e) old new =
+    made_of old (kind_of boards e) ≡ 2 ^ 32 - 1 → new.made ≡ old.made
+IsFullKept boards None old new = new.made ≡ old.made

@@ -15,23 +15,25 @@ ghost use Rattle.vmebus_c.specs.Asked.{asked_of, failed_numbers, open_numbers, s
 ghost use Rattle.vmebus_c.specs.Bits.{pins_number};
 ghost use Rattle.vmebus_c.specs.Built.{build_numbers};
 ghost use Rattle.vmebus_c.specs.Named.{version_of_number, driver_of_number, edge_of_numbers, wire_of_number};
-ghost use Rattle.vmebus_c.specs.Opened.{IsOpened, IsFault};
+ghost use Rattle.vmebus_c.specs.Opened.{HasFault, HasNoFault, IsOpened, IsSizedFault, bus_bytes, draws_bytes};
 ghost use Rattle.vme_seeds.specs.declared.kinds.Kind.{Kind as KindOf};
 ghost use Rattle.vme_seeds.specs.Choices.{weight};
 ghost use Rattle.vme_seeds.specs.Draws.{IsCountedIn, is_seeded, made_of, numbers_of, weight_of};
 ghost use Rattle.vme_seeds.specs.Kinds.{has_board};
 ghost use Rattle.vme_seeds.specs.Numbers.{after_words, generator};
-ghost use Rattle.vmebus_c.specs.Played.{AreWeighed, IsNumberIn, drawn_answer, drawn_edge, drawn_number, played};
-ghost use Rattle.vmebus_c.specs.Rooms.{written, written_whole};
+ghost use Rattle.vmebus_c.specs.Played.{AreWeighed, IsFullKept, IsNumberIn, drawn_answer, drawn_edge, drawn_number, played};
+ghost use Rattle.vmebus_c.specs.Rooms.{HasFew, HasShort, written, written_text};
 ghost use Rattle.vmebus_c.specs.Stepped.{answered_or, delivery_of_edge, followed, no_bus, no_driver, no_edge};
+ghost use Rattle.vmebus_c.specs.Verdicts.{verdict_of_numbers};
 
 use crate::asked::{failed_numbers, open_numbers, spelled, why_text};
 use crate::bits::pins_number;
-use crate::named::{driver_of, edge_of_numbers, version_of, wire_of};
+use crate::named::{driver_of, edge_of_numbers, wire_of};
 use crate::numbers::{delivery_number, edge_number, refusal_number};
-use crate::opens::{NO_VERSION, plan_of};
+use crate::opens::{fault_number, opened, write_fault};
 use crate::played::draw;
-use crate::rooms::{write, write_whole};
+use crate::rooms::{write, write_text};
+use crate::verdicts::verdict_of;
 use std::alloc::Global;
 use vme_bus::BusState;
 use vme_histories::Judges;
@@ -49,8 +51,14 @@ const DRAWS_WORDS: u32 = 37;
 
 const _: () = prove!(size_of::<Draws>() == 4 * DRAWS_WORDS as usize);
 
-/// The version of the library, 1.0.0, a byte for each number. It is that of the program.
-const VERSION: u32 = 0x1_0000;
+/// The version of the library, 2.0.0, a byte for each number. It is that of the program.
+const VERSION: u32 = 0x2_0000;
+
+/// 1 in a library that was proved.
+const IS_PROVED: u32 = 1;
+
+/// The fault of a caller whose bus or draws have another size.
+const OTHER_SIZE: u32 = 32;
 
 /// The answer if the record is not a bus.
 const NO_BUS: u32 = 0xffff_ffff;
@@ -67,32 +75,60 @@ const NO_DRIVER: u32 = 0x100;
 /// The answer to a line that spells no edge.
 const NO_EDGE: u32 = 0x500;
 
-/// Opens a bus on the plan of a scenario, under the rules of a version, 1 or 2.
+/// Opens a bus on the plan of a scenario, under the rules of a version, 1 or 2. `bytes` is the size
+/// of the caller's bus.
 ///
-/// It returns 0, or the number of the first fault: 31 if there is no such version; 20 if the
-/// scenario has more than 1,048,576 bytes; 1 to 9 for P1 to P9; 11 to 14 and 16 for Q1 to Q4 and
-/// Q6. If memory runs out, 9 or 16 may be returned in place of any fault of the scenario. After a
-/// fault the bus is as it was.
+/// It returns 0, or the number of the first fault: 32 if the size is not 660; 31 if there is no
+/// such version; 20 if the scenario has more than 1,048,576 bytes; 1 to 9 for P1 to P9; 11 to 14
+/// and 16 for Q1 to Q4 and Q6. If memory runs out, 9 or 16 may be returned in place of any fault of
+/// the scenario. After a fault the bus is as it was, and nothing of it was read or written.
 #[unsafe(no_mangle)]
-pub extern "C" fn vmebus_open(
+pub extern "C" fn vmebus_open_sized(
     bus: &mut BusState,
+    bytes: usize,
     version: u32,
     scenario: &[u8],
     alloc: Global,
 ) -> u32
+    ensures size { result ≡ 0 → bytes ≡ bus_bytes }
     ensures opened { result ≡ 0 → IsOpened (version_of_number version) scenario.now bus.new }
-    ensures fault { result ≢ 0 → IsFault (version_of_number version) scenario.now result }
+    ensures fault { result ≢ 0
+        → IsSizedFault bytes (version_of_number version) scenario.now result }
     ensures unchanged { result ≢ 0 → bus.new ≡ bus.old }
 {
-    let Some(version) = version_of(version) else {
-        return NO_VERSION;
-    };
-    match plan_of(alloc, scenario) {
-        Ok(plan) => {
+    if bytes != size_of::<BusState>() {
+        return OTHER_SIZE;
+    }
+    match opened(alloc, version, scenario) {
+        Ok((version, plan)) => {
             *bus = BusState::new(&plan, version);
             0
         }
-        Err(fault) => fault,
+        Err(fault) => fault_number(&fault),
+    }
+}
+
+/// Writes the line of the first fault of a version and a scenario, as the program prints it, such as
+/// `Q3 missing key slots`.
+///
+/// It returns how many bytes the line has, at most 1,024, and 0 if there is no fault; it writes
+/// nothing if there is less room. A zero byte stands behind the line if there is room for it. If
+/// memory runs out, the line may be that of P9 or Q6.
+#[unsafe(no_mangle)]
+pub extern "C" fn vmebus_fault_text(
+    version: u32,
+    scenario: &[u8],
+    text: &mut [u8],
+    alloc: Global,
+) -> u32
+    ensures none { result ≡ 0 → HasNoFault (version_of_number version) scenario.now }
+    ensures fault { result ≢ 0 → HasFault (version_of_number version) scenario.now }
+    ensures unwritten { result ≡ 0 → text.new ≡ text.old }
+    ensures few { HasShort 1024 result text.old text.new }
+{
+    match opened(alloc, version, scenario) {
+        Ok(_) => 0,
+        Err(fault) => write_fault(alloc, &fault, text),
     }
 }
 
@@ -251,6 +287,7 @@ pub extern "C" fn vmebus_failing(
         (failed_numbers version p h (edge_of_numbers driver wire fall value))) }
     ensures no_bus { is_slot bus.now.layout.slots ≡ false → result ≡ 0 }
     ensures unwritten { is_slot bus.now.layout.slots ≡ false → conditions.new ≡ conditions.old }
+    ensures few { HasFew 5 result conditions.old conditions.new }
 {
     if !bus.is_bus() {
         return 0;
@@ -278,16 +315,17 @@ pub extern "C" fn vmebus_why(
 ) -> u32
     ensures count { OfHistory bus.now (λ version p h. result
         ≡ length (why_text version p h (edge_of_numbers driver wire fall value) place)) }
-    ensures text { OfHistory bus.now (λ version p h. text.new ≡ written_whole text.old
+    ensures text { OfHistory bus.now (λ version p h. text.new ≡ written_text text.old
         (why_text version p h (edge_of_numbers driver wire fall value) place)) }
     ensures no_bus { is_slot bus.now.layout.slots ≡ false → result ≡ 0 }
     ensures unwritten { is_slot bus.now.layout.slots ≡ false → text.new ≡ text.old }
+    ensures few { HasShort 58 result text.old text.new }
 {
     if !bus.is_bus() {
         return 0;
     }
     let line = why_text(bus, edge_of_numbers(driver, wire, fall, value), place);
-    write_whole(text, line.as_slice());
+    write_text(text, line.as_slice());
     line.len() as u32
 }
 
@@ -306,10 +344,11 @@ pub extern "C" fn vmebus_spell(
 ) -> u32
     ensures count { result ≡ length (spelled (edge_of_numbers driver wire fall value)) }
     ensures line { line.new
-        ≡ written_whole line.old (spelled (edge_of_numbers driver wire fall value)) }
+        ≡ written_text line.old (spelled (edge_of_numbers driver wire fall value)) }
+    ensures few { HasShort 12 result line.old line.new }
 {
     let spelling = spelled(edge_of_numbers(driver, wire, fall, value));
-    write_whole(line, spelling.as_slice());
+    write_text(line, spelling.as_slice());
     spelling.len() as u32
 }
 
@@ -327,6 +366,7 @@ pub extern "C" fn vmebus_open_edges(bus: &BusState, driver: u32, edges: &mut [u3
         ≡ written edges.old (open_numbers version p h (driver_of_number driver))) }
     ensures no_bus { is_slot bus.now.layout.slots ≡ false → result ≡ 0 }
     ensures unwritten { is_slot bus.now.layout.slots ≡ false → edges.new ≡ edges.old }
+    ensures few { HasFew 36 result edges.old edges.new }
 {
     if !bus.is_bus() {
         return 0;
@@ -364,16 +404,42 @@ pub extern "C" fn vmebus_has(bus: &BusState, driver: u32, wire: u32) -> u32
     }
 }
 
-/// Makes the draws of a seed: by it `drive --seed` draws the same numbers and weights. No edge was
-/// drawn yet.
+/// Writes the verdict on an edge, as `replay` prints it, by what a step returned and delivered: `ok`,
+/// `ok irq 4 to 1 from 2 status 65`, `E3 G16`.
+///
+/// It returns how many bytes the verdict has, at most 37, and 0 for a number that is no answer to an
+/// edge; it writes nothing if there is less room. A zero byte stands behind the text if there is
+/// room for it.
 #[unsafe(no_mangle)]
-pub extern "C" fn vmebus_draws(draws: &mut Draws, seed: u64)
-    ensures numbers { numbers_of draws.new ≡ after_words 28 (generator seed) }
-    ensures weights { (k : KindOf) → weight_of draws.new k ≡ weight (generator seed) k }
-    ensures weighed { AreWeighed draws.new }
-    ensures made { (k : KindOf) → made_of draws.new k ≡ 0 }
+pub extern "C" fn vmebus_verdict(answer: u32, delivered: u32, text: &mut [u8]) -> u32
+    ensures count { result ≡ length (verdict_of_numbers answer delivered) }
+    ensures text { text.new ≡ written_text text.old (verdict_of_numbers answer delivered) }
+    ensures few { HasShort 37 result text.old text.new }
 {
+    let verdict = verdict_of(answer, delivered);
+    write_text(text, verdict.as_slice());
+    verdict.len() as u32
+}
+
+/// Makes the draws of a seed: by it `drive --seed` draws the same numbers and weights. No edge was
+/// drawn yet. `bytes` is the size of the caller's draws.
+///
+/// It returns 0, or 32 if the size is not 148, and then nothing was written.
+#[unsafe(no_mangle)]
+pub extern "C" fn vmebus_seed_sized(draws: &mut Draws, bytes: usize, seed: u64) -> u32
+    ensures size { (result ≡ 0) ↔ (bytes ≡ draws_bytes) }
+    ensures other { result ≢ 0 → result ≡ 32 }
+    ensures unchanged { result ≢ 0 → draws.new ≡ draws.old }
+    ensures numbers { result ≡ 0 → numbers_of draws.new ≡ after_words 28 (generator seed) }
+    ensures weights { result ≡ 0 → (k : KindOf) → weight_of draws.new k ≡ weight (generator seed) k }
+    ensures weighed { result ≡ 0 → AreWeighed draws.new }
+    ensures made { result ≡ 0 → (k : KindOf) → made_of draws.new k ≡ 0 }
+{
+    if bytes != size_of::<Draws>() {
+        return OTHER_SIZE;
+    }
     *draws = Draws::new(seed);
+    0
 }
 
 /// Draws the next edge among all open edges of the wires that the library plays, and counts it. The
@@ -383,11 +449,11 @@ pub extern "C" fn vmebus_draws(draws: &mut Draws, seed: u64)
 /// the library plays it; a mask that is missing is 0. The edge is one word, as `vmebus_open_edges`
 /// writes it.
 ///
-/// It returns 0 if an edge was drawn, and 1 if none of the wires has an open edge; `edge` becomes 0
-/// then, and two numbers are drawn all the same. It returns 0xffffffff, and changes nothing but
-/// `edge`, if the record is not a bus, or if `draws` are those of no seed, such as zeros. Draws of
-/// a seed that are drawn on all wires, and a bus that is stepped with each edge, make the trace of
-/// `drive --seed`.
+/// It returns 0 if an edge was drawn, and 1 if none of the wires has an open edge; two numbers are
+/// drawn all the same then. It returns 0xffffffff, and leaves the draws as they were, if the record
+/// is not a bus, or if `draws` are those of no seed, such as zeros. Unless it returns 0, `edge`
+/// becomes 0. Draws of a seed that are drawn on all wires, and a bus that is stepped with each edge,
+/// make the trace of `drive --seed`.
 #[unsafe(no_mangle)]
 pub extern "C" fn vmebus_draw(
     bus: &BusState,
@@ -411,8 +477,12 @@ pub extern "C" fn vmebus_draw(
     ensures counts { is_seeded draws.old ≡ true → OfHistory bus.now (λ version p h.
         IsCountedIn (has_board p) (drawn_edge version p h wires.now draws.old)
         draws.old draws.new) }
+    ensures full { is_seeded draws.old ≡ true → OfHistory bus.now (λ version p h.
+        IsFullKept (has_board p) (drawn_edge version p h wires.now draws.old)
+        draws.old draws.new) }
     ensures no_bus { is_slot bus.now.layout.slots ≡ false → result ≡ no_bus }
     ensures no_seed { is_seeded draws.old ≡ false → result ≡ no_bus }
+    ensures nothing { result ≢ 0 → edge.new ≡ 0 }
     ensures unchanged { result ≡ no_bus → draws.new ≡ draws.old }
 {
     *edge = 0;
@@ -431,14 +501,16 @@ pub extern "C" fn vmebus_draw(
     }
 }
 
-/// Writes what the build is, and returns how many numbers that are, 3: the version of the library,
-/// 0x10000 for 1.0.0, and how many words a bus and draws have. If there is less room, the first of
-/// them are written. A program compares them with those of its header.
+/// Writes what the build is, and returns how many numbers that are, 4: the version of the library,
+/// 0x20000 for 2.0.0; how many words a bus and draws have; and 1 if the library is proved, 0 if it
+/// is not. If there is less room, the first of them are written. A program compares the first three
+/// with those of its header.
 #[unsafe(no_mangle)]
 pub extern "C" fn vmebus_build(numbers: &mut [u32]) -> u32
     ensures count { result ≡ length build_numbers }
     ensures numbers { numbers.new ≡ written numbers.old build_numbers }
+    ensures few { HasFew 4 result numbers.old numbers.new }
 {
-    write(numbers, &[VERSION, WORDS, DRAWS_WORDS]);
-    3
+    write(numbers, &[VERSION, WORDS, DRAWS_WORDS, IS_PROVED]);
+    4
 }

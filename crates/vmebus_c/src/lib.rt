@@ -12,3 +12,4 @@ mod numbers;
 mod opens;
 mod played;
 mod rooms;
+mod verdicts;

@@ -8,7 +8,7 @@ ghost use Rattle.vme_histories.specs.Opens.{open_but_full};
 ghost use Rattle.vme_seeds.specs.Draws.{IsCountedIn, next_by, numbers_of};
 ghost use Rattle.vme_seeds.specs.Kinds.{has_board};
 ghost use Rattle.vme_seeds.specs.Numbers.{after_words};
-ghost use Rattle.vmebus_c.specs.Played.{AreWeighed, drawn_edge, is_played, played};
+ghost use Rattle.vmebus_c.specs.Played.{AreWeighed, IsFullKept, drawn_edge, is_played, played};
 
 use crate::lists::EdgeList;
 use vme_bus::{BusState, SlotSet};
@@ -123,6 +123,7 @@ fn draw_one(draws: &mut Draws, boards: SlotSet, edges: &[Edge]) -> Option<Edge>
     ensures numbers { numbers_of draws.new ≡ after_words 2 (numbers_of draws.old) }
     ensures weights { draws.new.weights ≡ draws.old.weights }
     ensures counts { IsCountedIn (has boards) result draws.old draws.new }
+    ensures full { IsFullKept (has boards) result draws.old draws.new }
 {
     match draws.draw(boards, edges) {
         Some(drawn) => {
@@ -141,6 +142,7 @@ fn draw_of_many(bus: &BusState, boards: SlotSet, draws: &mut Draws, wires: &[u32
     ensures numbers { numbers_of draws.new ≡ after_words 2 (numbers_of draws.old) }
     ensures weights { draws.new.weights ≡ draws.old.weights }
     ensures counts { IsCountedIn (has boards) result draws.old draws.new }
+    ensures full { IsFullKept (has boards) result draws.old draws.new }
 {
     let mut edges = EdgeList::<OPEN_EDGES>::new();
     append_all(bus, boards, wires, &mut edges);
@@ -154,6 +156,7 @@ fn draw_next(bus: &BusState, boards: SlotSet, draws: &mut Draws, wires: &[u32]) 
     ensures numbers { numbers_of draws.new ≡ after_words 2 (numbers_of draws.old) }
     ensures weights { draws.new.weights ≡ draws.old.weights }
     ensures counts { IsCountedIn (has boards) result draws.old draws.new }
+    ensures full { IsFullKept (has boards) result draws.old draws.new }
 {
     let mut edges = EdgeList::<FEW_EDGES>::new();
     if append_all(bus, boards, wires, &mut edges) {
@@ -176,6 +179,8 @@ pub(crate) fn draw(bus: &BusState, draws: &mut Draws, wires: &[u32]) -> Option<E
     ensures weights { draws.new.weights ≡ draws.old.weights }
     ensures counts { OfHistory bus.now (λ _ p _.
         IsCountedIn (has_board p) result draws.old draws.new) }
+    ensures full { OfHistory bus.now (λ _ p _.
+        IsFullKept (has_board p) result draws.old draws.new) }
 {
     a_draw_gives_one_of_its_edges();
     let boards = boards_on(bus);

@@ -1,6 +1,6 @@
 use Rattle.std.specs.List.{flat_map}
 use Rattle.std.specs.Io.KnownBytes.{Appends}
-use Rattle.vme_program.specs.Shown.{shown}
+use Rattle.vme_escapes.specs.Shown.{shown}
 use Rattle.vme_program.proofs.escapes.write_escaped.Given as goal
 
 abbrev pub invariant-loop-c : goal.invariant-loop-c

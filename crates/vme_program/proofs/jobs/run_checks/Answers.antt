@@ -3,8 +3,9 @@ use Rattle.std.proofs.lemmas.Result.{err_from_is_err_and}
 use Rattle.std.proofs.KnownBytes.{Keeps-refl}
 use Rattle.vme_command_line.specs.declared.Job.TheVariants.{Checks}
 use Rattle.vme_command_line.specs.Asked.{texts_of}
+use Rattle.vme_program.specs.CheckedFiles.{ChecksFiles}
 use Rattle.vme_program.specs.Done.{Fails, Stops}
-use Rattle.vme_program.proofs.CheckedFiles.{checks_cut, checks_done, checks_unplanned, plan_fault}
+use Rattle.vme_program.proofs.CheckedFiles.{checks_cut, checks_done, plan_fault, unplanned}
 use Rattle.vme_program.proofs.jobs.run_checks.Goals as goal
 
 pub returns-in_err-test_plan-clause-fault : goal.returns-in_err-test_plan-clause-fault
@@ -18,7 +19,7 @@ returns-in_err-test_plan-clause-done g c =
     let e = err_from_is_err_and c.from_residual-in_err-test_plan.result c.from_residual-in_err-test_plan.ensures.1 in
     let no = c.in_err-test_plan.ensures.fault in
     rw (e.1, e.2, no.2)
-    (checks_unplanned c.deref.result.now (texts_of c.args.traces.items) (g.W.Write.contents c.args.out.now) (g.W.Write.contents c.args.out.now) (Stops (Checks c.args.scenario c.args.traces))
+    (unplanned c.deref.result.now (ChecksFiles (texts_of c.args.traces.items) (g.W.Write.contents c.args.out.now) (g.W.Write.contents c.args.out.now)) (g.W.Write.contents c.args.out.now) (g.W.Write.contents c.args.out.now) (Stops (Checks c.args.scenario c.args.traces))
     (Fails (Checks c.args.scenario c.args.traces) (g.W.Write.contents c.args.out.now) (g.W.Write.contents c.args.out.now)) c.args.scenario no.0 (Keeps-refl _) no.1)
 
 pub returns-in-Ok-clause-done : goal.returns-in-Ok-clause-done

@@ -1,4 +1,5 @@
 use Rattle.std.proofs.Common.{◌∙◌, ap, sym}
+use Rattle.std.specs.Prelude.{option_map}
 use Rattle.std.specs.Option.{option_map_or}
 use Rattle.vme_model.specs.declared.signals.Driver.TheVariants.{Slot}
 use Rattle.vme_model.specs.declared.signals.Wire.TheVariants.{Bbsy}
@@ -11,8 +12,8 @@ use Rattle.vme_cycles.proofs.tracking.Tracking.tenure_begun.Goals as goal
 pub returns-in-Some : goal.returns-in-Some
 returns-in-Some c = λ p v es is.
     c.last_on.ensures p v es is
-    ∙ sym (ap (λ o. option_map_or (λ s. last_on (numbered (bench p v) es) (Slot s) Bbsy) o 0) (holder_is p v es _ is.follows _ c.holder.ensures.slot ∙ c.in-Some.is))
+    ∙ sym (ap (λ o. option_map_or (λ d. last_on (numbered (bench p v) es) d Bbsy) (option_map (λ s. Slot s) o) 0) (holder_is p v es _ is.follows _ c.holder.ensures.slot ∙ c.in-Some.is))
 
 pub returns-in-None : goal.returns-in-None
 returns-in-None c = λ p v es is.
-    sym (ap (λ o. option_map_or (λ s. last_on (numbered (bench p v) es) (Slot s) Bbsy) o 0) (holder_is p v es _ is.follows _ c.holder.ensures.slot ∙ c.in-None.is))
+    sym (ap (λ o. option_map_or (λ d. last_on (numbered (bench p v) es) d Bbsy) (option_map (λ s. Slot s) o) 0) (holder_is p v es _ is.follows _ c.holder.ensures.slot ∙ c.in-None.is))

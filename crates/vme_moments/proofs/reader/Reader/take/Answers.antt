@@ -9,6 +9,7 @@ returns-in-Ok c =
     let part : c.try_push.new.self.items ≡ c.args.self.now.part.items ++ c.args.byte ∷ [] = search rules in (
       byte_sound c.args.self.now new c.args.byte c.requires c.if-byte-eq10.false refl refl refl refl part (search rules),
       byte_taken c.args.self.now new c.args.byte refl refl refl refl part,
+      λ none. (none, part),
     )
 
 pub returns-in-Err : goal.returns-in-Err

@@ -1,6 +1,6 @@
-use Rattle.std.proofs.Common.{◌≡◌, Some, None, sym, ◌∙◌, ap}
+use Rattle.std.proofs.Common.{◌≡◌, ◌∷◌, [], Some, None, sym, ◌∙◌, ap}
 use Rattle.vme_model.specs.Text.{version_of}
-use Rattle.vme_moments.proofs.TakenBytes.{header_absent, header_sound, header_taken}
+use Rattle.vme_moments.proofs.TakenBytes.{header_absent, header_sound, header_taken, start_over}
 use Rattle.vme_moments.proofs.reader.Reader.take_header.Goals as goal
 
 pub returns-in-Some : goal.returns-in-Some
@@ -12,6 +12,7 @@ returns-in-Some c =
       header_taken c.args.self.now c.go_on.new.self c.in-Some.version c.requires.sound c.requires.unnamed named
           c.go_on.ensures.part c.go_on.ensures.version c.go_on.ensures.line c.go_on.ensures.last
           c.go_on.ensures.seen,
+      start_over c.args.self.now c.go_on.new.self (10 ∷ []) c.in-Some.version c.go_on.ensures.version,
     )
 
 pub returns-in-None : goal.returns-in-None

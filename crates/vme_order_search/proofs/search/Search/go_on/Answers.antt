@@ -1,4 +1,4 @@
-use Rattle.std.proofs.Common.{◌≡◌, ◌∙◌, ◌≤◌, Ok, Some, ap, refl, subst, sym, arith, length}
+use Rattle.std.proofs.Common.{◌≡◌, ◌∙◌, ◌≤◌, true, Ok, Some, ap, refl, subst, sym, arith, length}
 use Rattle.std.specs.List.{slice_get}
 use Rattle.vme_order_search.specs.declared.layers.Layer.{Layer}
 use Rattle.vme_order_search.specs.Places.{AreUnfree}
@@ -54,8 +54,8 @@ returns-then-is_full-clause-cut c t n m eq eqs there w is =
     (next q takes).1) (c.in_ok-is_full.was ∙ ap Ok c.if-is_full.true) in
     ((c.in-Some.place, cut.0), cut.1)
 
-pub returns-clause-whole : goal.returns-clause-whole
-returns-clause-whole c t n m eq eqs there w is =
+pub returns-in_default-clause-whole : goal.returns-in_default-clause-whole
+returns-in_default-clause-whole c t n m eq eqs there w is =
     let was = c.places.invariant.1 in
     let stands : slice_get c.places.self.layer.kept.items m ≡ Some c.args.front.now =
     ap (λ (l : Layer). slice_get l.kept.items m) was.0 ∙ there in
@@ -63,3 +63,10 @@ returns-clause-whole c t n m eq eqs there w is =
     (c.places.invariant.2 t n m eq eqs there w) stands
     (λ q takes. subst (λ k. AreUnfree t.slacks t.seen q c.places.from k) (ap length (sym eq)) (unfree_in t c.args.slacks.now c.args.seen.now q
     c.places.from (length c.args.seen.now) eq eqs (c.in_default.ensures.next q takes)))
+
+pub returns-clause-cut : goal.returns-clause-cut
+returns-clause-cut c t n m eq eqs there w is =
+    let done : c.is_done.result ≡ true = c.places-test.false in (
+      (c.places.from, c.places.invariant.2 t n m eq eqs there w),
+      λ full. absurd (c.is_done.ensures done full),
+    )

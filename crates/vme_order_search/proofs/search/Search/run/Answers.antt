@@ -1,4 +1,4 @@
-use Rattle.std.proofs.Common.{◌≡◌, ◌∙◌, ◌<◌, ap, subst, sym, arith, length}
+use Rattle.std.proofs.Common.{◌≡◌, ◌∙◌, ◌<◌, ◌+◌, ap, subst, sym, arith, length}
 use Rattle.vme_order_search.specs.declared.layers.Layer.{Layer}
 use Rattle.vme_order_search.specs.Searching.{HasEnded}
 use Rattle.vme_order_search.proofs.Outcomes.{ended_here, ended_whole}
@@ -16,15 +16,18 @@ returns-then-is_empty-clause-ended c t eq eqs h =
 
 pub loop-length-preserved : goal.loop-length-preserved
 loop-length-preserved c = (
-  c.advance.ensures.fit,
-  subst (λ (l : Layer). 0 < length l.kept.items) (sym c.advance.ensures.kept)
-      (c.is_empty.ensures.some c.if-is_empty.false),
-  c.advance.ensures.width ∙ c.in_ok-lengthen.ensures.width ∙ c.loop-length.invariant.2,
+  c.in_ok-drop_others.ensures.fit,
+  c.in_ok-drop_others.ensures.some
+      (subst (λ (l : Layer). 0 < length l.kept.items) (sym c.advance.ensures.kept)
+      (c.is_empty.ensures.some c.if-is_empty.false)),
+  c.in_ok-drop_others.ensures.width ∙ c.advance.ensures.width ∙ c.in_ok-lengthen.ensures.width
+      ∙ c.loop-length.invariant.2,
   λ t eq eqs h.
       let layer = c.loop-length.invariant.3 t eq eqs h in
-      c.advance.ensures.layer t c.loop-length.length
+      c.in_ok-drop_others.ensures.layer t (c.loop-length.length + 1)
+      (c.advance.ensures.layer t c.loop-length.length
       (c.in_ok-lengthen.ensures.layer t c.loop-length.length eq eqs layer)
-      (c.in_ok-lengthen.ensures.longer t c.loop-length.length eq eqs layer),
+      (c.in_ok-lengthen.ensures.longer t c.loop-length.length eq eqs layer)),
 )
 
 pub returns-clause-ended : goal.returns-clause-ended

@@ -1,4 +1,4 @@
-use Rattle.std.proofs.Common.{◌≡◌, ◌∙◌, ◌≤◌, ◌+◌, ◌-◌, inl, false, None, Some, ◌∷◌, ap, subst, sym, arith, get_or, is_ok}
+use Rattle.std.proofs.Common.{◌≡◌, ◌∙◌, ◌≤◌, ◌+◌, inl, false, None, Some, ◌∷◌, ap, subst, sym, arith, get_or, is_ok}
 use Rattle.std.specs.List.{slice_get}
 use Rattle.std.proofs.lemmas.Option.{slice_get-get_or}
 use Rattle.vme_model.specs.declared.signals.Driver.TheVariants.{Controller}

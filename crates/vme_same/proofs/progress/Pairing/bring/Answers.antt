@@ -8,7 +8,7 @@ returns-in-Some-clause-going c = λ p v w k fs at ready is near.
     stops_sure p v w k fs c.args.edge.now (edges_of now.waiting.items) now.rest now.taken
     c.args.number ready is c.args.place at near c.walk.result
     (λ u q taken state legal. c.walk.ensures.back u q taken at state legal)
-    now.has_ended now.is_over c.in-Some.stop c.in-Some.is
+    now.has_ended now.is_over c.in-Some.stop c.in-Some.is c.first_of.result c.first_of.ensures.first
 
 pub returns-in-None-clause-going : goal.returns-in-None-clause-going
 returns-in-None-clause-going c = λ p v w k fs at ready is near.

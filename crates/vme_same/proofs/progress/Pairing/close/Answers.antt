@@ -14,6 +14,6 @@ returns-in-Some-clause-going c = λ p v w k fs going.
     let none : length now.waiting.items ≡ 0 = grind (arith, nat_tests, common_steps) in
     let idle : now.waiting.items ≡ [] = nil_from_length now.waiting.items none in
     let some = c.in-Some.ensures.some in
-    subst (IsSure p v w k fs now.has_ended now.is_over) (sym c.differs.ensures.found)
+    subst (IsSure p v w k fs now.has_ended now.is_over) (sym c.leaves.ensures.found)
     (left_sure p v w k fs (edges_of now.waiting.items) now.rest now.taken ready (ap edges_of idle)
     some.0 c.in-Some.left.now some.1 now.has_ended now.is_over over)

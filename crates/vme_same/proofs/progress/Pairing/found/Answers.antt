@@ -20,7 +20,7 @@ pub returns-in-Some-clause-found : goal.returns-in-Some-clause-found
 returns-in-Some-clause-found c = λ p v w k fs going idle ended over.
     let now = c.args.self.now in
     let some = c.in-Some.ensures.some in
-    subst (IsOutcome p v w k fs) (sym c.differs.ensures.found)
+    subst (IsOutcome p v w k fs) (sym c.leaves.ensures.found)
     (left_found p v w k fs (edges_of now.waiting.items) now.rest now.taken
     (subst (Goes p v w k fs now) c.in-Open.is going) (ap edges_of (idle c.in-Open.is ended))
     some.0 c.in-Some.left.now some.1)

@@ -6,10 +6,10 @@ use Rattle.vme_same.proofs.progress.Pairing.take_second.Goals as goal
 pub returns-in-Seeks-clause-going : goal.returns-in-Seeks-clause-going
 returns-in-Seeks-clause-going c = λ p v w k fs going goes room.
     let now = c.args.self.now in
-    let old : (now.has_ended ≡ false) × IsSought p v w k fs c.in-Seeks.number c.in-Seeks.edge =
+    let old : (now.has_ended ≡ false) × IsSought p v w k fs c.in-Seeks.field-0 =
     subst (Goes p v w k fs now) c.in-Seeks.is going in
     subst (Goes p v w k (fs ++ c.args.edge.now ∷ []) now) (sym c.in-Seeks.is)
-    (old.0, sought_later p v w k fs c.in-Seeks.number c.in-Seeks.edge c.args.edge.now old.1)
+    (old.0, sought_later p v w k fs c.in-Seeks.field-0 c.args.edge.now old.1)
 
 pub returns-in-Finds-clause-going : goal.returns-in-Finds-clause-going
 returns-in-Finds-clause-going c = λ p v w k fs going goes room.
