@@ -100,6 +100,6 @@ repeat_failures() {
     for name in "${names[@]}"; do
         if [[ -z ${failures[$name]:-} ]]; then continue; fi
         echo "check: $name: ${failures[$name]}; its log ends with"
-        grep -avE ': as it should be$|: refused at ' "$room/$name.log" | tail -n 10 | cut -c 1-300 | sed 's/^/    /'
+        grep -avE ': as it should be$|: refused at |^by a written proof alone: ' "$room/$name.log" | tail -n 10 | cut -c 1-300 | sed 's/^/    /'
     done
 }

@@ -55,7 +55,7 @@ ENDS = {
     "echo '3 passed, 0 failed'; echo more": (24, 1, "check: words: it has no total: more;"),
     "exit 0": (24, 1, "check: words: it has no total: ;"),
     "kill -KILL $$": (24, 1, "', and its command, tee and sed ended with 137 0 0"),
-    "echo 'it: as it should be'; echo 'FAILED it'; echo '0 passed, 1 failed'": (24, 1, "log ends with\n    FAILED it\n    0 passed, 1 failed\n"),
+    "echo 'it: as it should be'; echo 'FAILED it'; echo 'by a written proof alone: it: why'; echo '0 passed, 1 failed'": (24, 1, "log ends with\n    FAILED it\n    0 passed, 1 failed\n"),
     # A total that is written by another than the step.
     f"echo {PASSES} >$TMPDIR/live.total": (0, 1, "check: the total of live cannot be written into "),
     f"echo {PASSES} >>$TMPDIR/acceptance.total; echo {PASSES}": (24, 1, f"check: acceptance: it has no total: {PASSES} {PASSES};"),
