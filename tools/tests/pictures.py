@@ -2,6 +2,7 @@
 
 from __future__ import annotations
 
+import os
 import shutil
 import subprocess
 import sys
@@ -10,6 +11,7 @@ import unittest
 import xml.etree.ElementTree as tree
 from pathlib import Path
 from typing import Dict, List, Tuple
+from unittest import mock
 
 from vmebus_tools import reading, style, svg
 from vmebus_tools.drawing import Drawing, Story, level_before
@@ -100,9 +102,10 @@ class Pictures(Small):
         """Nothing is red, every row has its name, and the tenure its line."""
         root = self.drawn(LEGAL)
         found = texts(root)
-        for name in ("c bg3", "1 br", "1 bbsy", "grant at", "holder", "shown", "verdict", *"123456", "slot 1, 0 cycles"):
+        for name in ("c bg3", "1 br", "1 bbsy", "grant at", "holder", "shown", "verdict", *"123456", "slot 1"):
             self.assertIn(name, found)
         self.assertEqual([it for it in root.iter() if {"red", "refused", "column"} & set(it.get("class", "").split())], [])
+        self.assertEqual(with_class(root, "tenure")[0].find(f"{SVG}title").text, "3..6 1 tenure asked 1 cycles 0")
         self.assertIn("edges 1 to 6, none refused, on scenario.toml", found)
 
     def test_refused(self) -> None:
@@ -222,6 +225,19 @@ class Faults(Small):
         self.fails((*self.files(f"{LEGAL}2 berr-\n"), "--from", "7"), "X2 line 8 is no edge")
         self.fails((*self.files(LEGAL), "--from", "7"), "X9 the trace has 6 edges")
         self.fails(self.files("vme 1\n"), "X9")
+
+    def test_other_programs(self) -> None:
+        """A program that prints something else is a fault, too."""
+        words = self.files(LEGAL)
+        for name, text, part in (("mute", "exit 0", "show printed nothing"), ("other", "echo edges; echo; echo 1", "the program printed something else"),
+                                 ("lost", "kill -9 $$", "ended with status -9")):
+            path = self.room / name
+            path.write_text(f"#!/bin/sh\n{text}\n")
+            path.chmod(0o755)
+            with mock.patch.dict(os.environ, VMEBUS_PROGRAM=str(path)):
+                self.fails(words, part)
+        with mock.patch.dict(os.environ, VMEBUS_PROGRAM=str(self.room / "none")):
+            self.fails(words, "which is no program")
 
     def test_full_disk(self) -> None:
         with open("/dev/full", "wb") as full:

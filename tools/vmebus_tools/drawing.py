@@ -249,35 +249,32 @@ class Drawing:
 
     def draw_group(self, row: Row, level: str, middle: float) -> None:
         """An address group: a line in the middle while it is off, and a box with what it shows while it is on."""
-        on = "".join("on"[mark in "-/"] if mark != "x" else " " for mark in row.marks)
-        states = self.filled(on, "o" if level == "_" else "n")
         at = self.left
-        for first, end, _ in reading.spans(states.replace("n", ".")):
-            begin = self.left if first == 0 and row.marks[0] != "\\" else self.x(first)
-            stop = self.right if end == self.shown.edges else self.x(end)
+        for first, end, _ in reading.spans(self.states_of_group(row, level)):
+            opens = (first == 0 and row.marks[0] != "\\", end == self.shown.edges)
+            begin, stop = self.left if opens[0] else self.x(first), self.right if opens[1] else self.x(end)
             self.canvas.path(f"M{at:g} {middle:g}H{begin:g}", "wave")
-            self.draw_box(begin, stop, middle, end == self.shown.edges, self.shown.shown[first])
+            self.draw_box((begin, stop), opens, middle, self.shown.shown[first])
             at = stop
         if at < self.right:
             self.canvas.path(f"M{at:g} {middle:g}H{self.right:g}", "wave")
 
     @staticmethod
-    def filled(states: str, before: str) -> str:
-        """States in which a blank is what was before it."""
-        for state in states:
-            before += before[-1] if state == " " else state
-        return before[1:]
+    def states_of_group(row: Row, level: str) -> str:
+        """For each column `#` if the group is on behind it, else `.`; a refused edge leaves it as it was."""
+        states = "#" if level == "_" else "."
+        for mark in row.marks:
+            states += states[-1] if mark == "x" else "#" if mark in "\\_" else "."
+        return states[1:]
 
-    def draw_box(self, begin: float, stop: float, middle: float, is_open: bool, mark: str) -> None:
-        """The box of an address group, which opens at its first edge and closes at its last one, if these are in the picture."""
-        top, bottom = middle - SWING, middle + SWING
-        start = f"M{begin:g} {top:g}" if begin == self.left else f"M{begin:g} {middle:g}L{begin + SLOPE:g} {top:g}"
-        over = f"H{stop:g}" if is_open else f"H{stop - SLOPE:g}L{stop:g} {middle:g}L{stop - SLOPE:g} {bottom:g}"
-        back = f"M{begin:g} {bottom:g}H{stop:g}" if begin == self.left and is_open else ""
-        if not back:
-            over += f"M{stop:g} {bottom:g}" if is_open else ""
-            back = f"H{begin:g}" if begin == self.left else f"H{begin + SLOPE:g}L{begin:g} {middle:g}"
-        self.canvas.path(start + over + back, "wave")
+    def draw_box(self, edges: Tuple[float, float], opens: Tuple[bool, bool], middle: float, mark: str) -> None:
+        """The box of an address group. It is open at a side at which the group goes on outside of the picture."""
+        begin, stop = edges
+        lines = ""
+        for level in (middle - SWING, middle + SWING):
+            left = f"M{begin:g} {level:g}" if opens[0] else f"M{begin:g} {middle:g}L{begin + SLOPE:g} {level:g}"
+            lines += left + (f"H{stop:g}" if opens[1] else f"H{stop - SLOPE:g}L{stop:g} {middle:g}")
+        self.canvas.path(lines, "wave")
         text = "" if mark == "." else fitting(texts_of_value(mark), SMALL, stop - begin - 2 * SLOPE - 2)
         if text:
             self.canvas.text((begin + stop) / 2, middle + 4, text, "small ink middle")
