@@ -208,6 +208,7 @@ class Faults(Small):
             ((*files, "--from", "3", "--to", "2"), "edges 3 to 2: a picture has 1 to 200 edges"),
             ((*files, "--from", "1", "--to", "201"), "a picture has 1 to 200 edges"),
             ((*files, "--rows", "1 br,,1 bbsy"), "a name of a row is empty"),
+            ((*files, "--rows", "1 br,holder,1 br"), "the row '1 br' is named twice"),
             ((*files, "--rows", "2 br"), "no row is named '2 br' here; there are: c bg3, 1 br, 1 bbsy, grant at,"),
         ):
             self.fails(words, part)
