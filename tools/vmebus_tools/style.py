@@ -69,6 +69,6 @@ def painted(colors: dict) -> str:
 
 
 def style() -> str:
-    """The style sheet: what does not depend on the colors, the light ones, and the dark ones for those who prefer them."""
+    """The style sheet: what does not depend on the colors, the light ones, and on a screen the dark ones for those who prefer them."""
     fixed = "".join(f".{NAME} {line.replace(', .', f', .{NAME} .')}\n" for line in FIXED.splitlines())
-    return f"{fixed}{painted(LIGHT)}@media (prefers-color-scheme: dark) {{\n{painted(DARK)}}}\n"
+    return f"{fixed}{painted(LIGHT)}@media screen and (prefers-color-scheme: dark) {{\n{painted(DARK)}}}\n"
