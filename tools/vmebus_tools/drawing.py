@@ -410,9 +410,18 @@ class Drawing:
         if self.refused:
             self.canvas.path(f"M{MARGIN} {at:g}H{self.wide - MARGIN:g}", "rule")
             at += 8
-        for refusal in self.refused.values():
+        for refusal in (it for it in self.refused.values() if it.number in self.story.explained):
             at = self.draw_refusal(refusal, at)
-        return at + MARGIN - 4
+        return self.draw_rest(at) + MARGIN - 4
+
+    def draw_rest(self, at: float) -> float:
+        """The refused edges whose conditions were not asked for, one behind another; returns the height at which they end."""
+        rest = [f"{it.number}\u00a0{it.edge}\u00a0{it.verdict}".replace(" ", "\u00a0") for it in self.refused.values() if it.number not in self.story.explained]
+        cells = int((self.wide - 2 * MARGIN) / (TEXT * ADVANCE))
+        for line in textwrap.wrap(f"also\u00a0refused: {', '.join(rest)}" if rest else "", cells, break_on_hyphens=False):
+            at += LINE
+            self.canvas.text(MARGIN, at - 3, line, "red")
+        return at + (6 if rest else 0)
 
     def stops(self) -> Tuple[float, float, float, float]:
         """Where the number of a refused edge ends, and where its words, its verdict and its conditions begin."""
