@@ -215,7 +215,7 @@ _vmebus() {{
             curcontext=${{curcontext%:*:*}}:vmebus-$line[1]:
             case $line[1] in
 {commands}
-                help) _arguments '1: :->command' && return; _describe -t commands command commands ;;
+                help) if ((CURRENT == 2)); then _describe -t commands command commands; fi ;;
             esac
             ;;
     esac
@@ -270,7 +270,8 @@ function __vmebus_is -d 'Whether the command is one of these'
 end
 
 function __vmebus_is_none -d 'Whether there is no command yet'
-    not set -q (commandline -opc)[2]
+    set -l words (commandline -opc)
+    not set -q words[2]
 end
 
 function __vmebus_place -d 'How many arguments stand between the command and the cursor: OPTION.. are those with a value'
@@ -327,7 +328,7 @@ def fish(whole: Help, commands: List[Command]) -> str:
     lines = [fish_option("__vmebus_is_none", it, {}) for it in whole.options]
     for row in whole.commands:
         lines.append(f"complete -c vmebus -n __vmebus_is_none -a {fish_quoted(row.term)} -d {fish_quoted(row.text)}")
-    lines.append(f"complete -c vmebus -n '__vmebus_is help' -a {fish_quoted(' '.join(it.name for it in commands))}")
+    lines.append(f"complete -c vmebus -n '__vmebus_is help; and test (__vmebus_place) = 0' -a {fish_quoted(' '.join(it.name for it in commands))}")
     for command in commands:
         lines += fish_command(command)
     return FISH.format(lines="\n".join(lines))
