@@ -305,7 +305,8 @@ def fish_option(condition: str, option: Option, values: Dict[str, Value]) -> str
     words = values[option.long].words if option.value else []
     value = " -x" * bool(option.value) + (f" -a {fish_quoted(' '.join(words))}" if words else "")
     short = f" -s {option.short[1:]}" if option.short else ""
-    return f"complete -c vmebus -n {fish_quoted(condition)}{short} -l {option.long[2:]}{value} -d {fish_quoted(option.row.text)}"
+    names = f"{short} -l {option.long[2:]}{value}"
+    return f"complete -c vmebus -n {fish_quoted(condition)}{names} -d {fish_quoted(option.row.text)}"
 
 
 def fish_values(value: Value) -> str:
@@ -321,7 +322,8 @@ def fish_command(command: Command) -> Iterator[str]:
     for at, (argument, value) in enumerate(zip(command.help.arguments, command.of_arguments)):
         place = " ".join(["__vmebus_place", *command.of_options])
         test = f"test ({place}) {'-ge' if argument.is_repeated else '='} {at}"
-        yield f"complete -c vmebus -n {fish_quoted(f'{condition}; and {test}')} {fish_values(value)} -d {fish_quoted(argument.name)}"
+        at_place = fish_quoted(f"{condition}; and {test}")
+        yield f"complete -c vmebus -n {at_place} {fish_values(value)} -d {fish_quoted(argument.name)}"
 
 
 def fish(whole: Help, commands: List[Command]) -> str:

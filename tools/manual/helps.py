@@ -131,6 +131,8 @@ def read_table(name: str, lines: List[str]) -> List[Row]:
 def read(words: Tuple[str, ...], text: str) -> Help:
     """A help of this text."""
     name, blocks = " ".join(words), [it.splitlines() for it in text.strip("\n").split("\n\n")]
+    if not blocks[0]:
+        raise Unreadable(f"{name} --help says nothing")
     (about, *_), rest = blocks[0], blocks[1:]
     usages = [line for it in rest if it[0].startswith(USAGE) for line in it]
     if not usages:
@@ -159,10 +161,16 @@ def version_of(program: Path) -> str:
     return found[1]
 
 
+def help_of(program: Path, *words: str) -> Help:
+    """The help of the program or of a command, on whichever output it is."""
+    _, written, said = ask(program, *words, "--help")
+    return read(("vmebus", *words), written or said)
+
+
 def all_of(program: Path) -> List[Help]:
     """The help of the program, and behind it that of each command but `help`."""
-    whole = read(("vmebus",), ask(program, "--help")[2])
+    whole = help_of(program)
     names = [it.term for it in whole.commands if it.term != "help"]
     if not names:
         raise Unreadable(f"{program} --help lists no commands")
-    return [whole, *(read(("vmebus", it), ask(program, it, "--help")[2]) for it in names)]
+    return [whole, *(help_of(program, it) for it in names)]
