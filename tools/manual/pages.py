@@ -169,8 +169,10 @@ def exit_status(help: Help, whole: Help) -> Iterator[str]:
     rows, rest = whole.statuses
     yield from tagged(rows, exact, 4)
     if help is not whole:
+        said = " ".join(line for text in help.description for line in text)
+        more = f" The description says which of them `{' '.join(help.words)}` has, and when." if "exit status" in said else ""
         yield ".PP"
-        yield from filled(prose(f"All commands have these. The description says when `{' '.join(help.words)}` ends with which."))
+        yield from filled(prose(f"This is what the statuses of all commands mean.{more}"))
     if rest:
         yield ".PP"
         yield from filled(prose(rest))
