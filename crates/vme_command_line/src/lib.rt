@@ -33,6 +33,7 @@ use std::alloc::Global;
 use vme_goals::Goal;
 use vme_model::{TRACE_LIMIT, Version};
 use vme_moments::Slacks;
+use vme_rulebook::Entry;
 
 /// The program's name and its version, as the line that `--version` prints. The version stands only
 /// here.

@@ -59,7 +59,7 @@ code_text E3 =
 code_text E4 =
     codes "E4 Sk\n"
     ++ codes "The edge's own rule holds, but its settling rule Sk does not: an edge of another\n"
-    ++ codes "driver has to come first. `vmebus explain` prints the wires that the settling\n"
+    ++ codes "driver has to happen first. `vmebus explain` prints the wires that the settling\n"
     ++ codes "rule depends on, and `vmebus rule` with its name, such as `vmebus rule S1`,\n"
     ++ codes "prints what it asks for.\n"
 code_text F1 =
@@ -106,12 +106,12 @@ code_text L4 =
 code_text L6 =
     codes "L6 the history is refused at N\n"
     ++ codes "`run` judges its trace a second time, and edge N, counted from 0, was refused.\n"
-    ++ codes "This is proved never to come. Suspect the machine or the build of the program,\n"
-    ++ codes "and report it with the scenario and the command.\n"
+    ++ codes "It is proved that this never happens. Suspect the machine or the build of the\n"
+    ++ codes "program, and report it with the scenario and the command.\n"
 code_text P1 =
     codes "P1 slot 1 is empty\n"
-    ++ codes "Slot 1 has no board, and the arbiter stands there. Usually the boards begin with\n"
-    ++ codes "slot 2: describe a board in slot 1 too.\n"
+    ++ codes "Slot 1 has no board, although the arbiter is on the board in slot 1. Usually the\n"
+    ++ codes "boards begin with slot 2: describe a board in slot 1 too.\n"
 code_text P2 =
     codes "P2 N slots, at most 21\n"
     ++ codes "`slots` is above 21, the most that a backplane can have. Usually the number is\n"
@@ -144,8 +144,8 @@ code_text P8 =
     codes "P8 FIELD is out of range\n"
     ++ codes "A number in the scenario is out of its range, such as `level = 4` of a\n"
     ++ codes "requester, `burst = 0`, or a board beyond `slots`. If there are several, `slots`\n"
-    ++ codes "comes first, then the boards, and then the jumpers, in the order of the file.\n"
-    ++ codes "Write a number in its range.\n"
+    ++ codes "is reported first, then the boards, and then the jumpers, in the order of the\n"
+    ++ codes "file. Write a number in its range.\n"
 code_text P9 =
     codes "P9 no memory\n"
     ++ codes "Memory ran out while the backplane was made from the scenario. Usually a limit\n"
@@ -154,8 +154,9 @@ code_text Q1 =
     codes "Q1 the scenario is not TOML\n"
     ++ codes "The scenario is not UTF-8, is not TOML, or is beyond a limit of TOML; the line\n"
     ++ codes "is not reported. Usually a word has no quotes, as in `arbiter = pri`, a table\n"
-    ++ codes "has a key twice, `[board]` stands for `[[board]]`, or the trace was named in its\n"
-    ++ codes "place. Correct the text, or convert it to UTF-8, and name SCENARIO before TRACE.\n"
+    ++ codes "has a key twice, `[board]` is written for `[[board]]`, or the trace was named in\n"
+    ++ codes "its place. Correct the text, or convert it to UTF-8, and name SCENARIO before\n"
+    ++ codes "TRACE.\n"
 code_text Q2 =
     codes "Q2 unknown key KEY\n"
     ++ codes "A table of the scenario has a key that it cannot have. Usually the key is\n"
@@ -165,7 +166,7 @@ code_text Q2 =
 code_text Q3 =
     codes "Q3 missing key KEY\n"
     ++ codes "A table of the scenario lacks a key that it needs. Usually `slots` or `arbiter`\n"
-    ++ codes "stands below `[[board]]`, so that it is a key of that board, or\n"
+    ++ codes "is written below `[[board]]`, so that it is a key of that board, or\n"
     ++ codes "`release = \"rwd\"` has no `burst` beside it. Write the key, and write all keys of\n"
     ++ codes "the top table first.\n"
 code_text Q4 =
@@ -173,7 +174,7 @@ code_text Q4 =
     ++ codes "The key has a value of another type than it needs, a word that is not in its\n"
     ++ codes "list, a number below 0 or above 255, or a handler level outside 1 to 7. Usually\n"
     ++ codes "a word is in capitals, as in `arbiter = \"PRI\"`, a number has quotes or a point,\n"
-    ++ codes "a list has no brackets, as in `handler = 4`, or `[board]` stands for\n"
+    ++ codes "a list has no brackets, as in `handler = 4`, or `[board]` is written for\n"
     ++ codes "`[[board]]`. Correct the value.\n"
 code_text Q6 =
     codes "Q6 no memory\n"
@@ -182,8 +183,8 @@ code_text Q6 =
 code_text X1 =
     codes "X1 the trace does not begin with vme 1 or vme 2\n"
     ++ codes "The first line of the trace is complete and not a header, or there is no byte at\n"
-    ++ codes "all. Usually the header is missing or misspelled, another line comes before it,\n"
-    ++ codes "or the file has CRLF line ends, a byte order mark or the encoding UTF-16. Write\n"
+    ++ codes "all. Usually the header is missing or misspelled, another line is above it, or\n"
+    ++ codes "the file has CRLF line ends, a byte order mark or the encoding UTF-16. Write\n"
     ++ codes "`vme 1` or `vme 2` as the whole first line, in ASCII, and end each line with a\n"
     ++ codes "line feed alone.\n"
 code_text X2 =

@@ -12,7 +12,7 @@ prints all of its conditions, and whether the standard asks for each.
 pub(crate) const E4: &str =
     "E4 Sk
 The edge's own rule holds, but its settling rule Sk does not: an edge of another
-driver has to come first. `vmebus explain` prints the wires that the settling
+driver has to happen first. `vmebus explain` prints the wires that the settling
 rule depends on, and `vmebus rule` with its name, such as `vmebus rule S1`,
 prints what it asks for.
 ";
@@ -77,14 +77,14 @@ command.
 pub(crate) const L6: &str =
     "L6 the history is refused at N
 `run` judges its trace a second time, and edge N, counted from 0, was refused.
-This is proved never to come. Suspect the machine or the build of the program,
-and report it with the scenario and the command.
+It is proved that this never happens. Suspect the machine or the build of the
+program, and report it with the scenario and the command.
 ";
 
 pub(crate) const P1: &str =
     "P1 slot 1 is empty
-Slot 1 has no board, and the arbiter stands there. Usually the boards begin with
-slot 2: describe a board in slot 1 too.
+Slot 1 has no board, although the arbiter is on the board in slot 1. Usually the
+boards begin with slot 2: describe a board in slot 1 too.
 ";
 
 pub(crate) const P2: &str =
@@ -131,8 +131,8 @@ pub(crate) const P8: &str =
     "P8 FIELD is out of range
 A number in the scenario is out of its range, such as `level = 4` of a
 requester, `burst = 0`, or a board beyond `slots`. If there are several, `slots`
-comes first, then the boards, and then the jumpers, in the order of the file.
-Write a number in its range.
+is reported first, then the boards, and then the jumpers, in the order of the
+file. Write a number in its range.
 ";
 
 pub(crate) const P9: &str =
@@ -145,8 +145,9 @@ pub(crate) const Q1: &str =
     "Q1 the scenario is not TOML
 The scenario is not UTF-8, is not TOML, or is beyond a limit of TOML; the line
 is not reported. Usually a word has no quotes, as in `arbiter = pri`, a table
-has a key twice, `[board]` stands for `[[board]]`, or the trace was named in its
-place. Correct the text, or convert it to UTF-8, and name SCENARIO before TRACE.
+has a key twice, `[board]` is written for `[[board]]`, or the trace was named in
+its place. Correct the text, or convert it to UTF-8, and name SCENARIO before
+TRACE.
 ";
 
 pub(crate) const Q2: &str =
@@ -160,7 +161,7 @@ as a comment, `# cpu`.
 pub(crate) const Q3: &str =
     "Q3 missing key KEY
 A table of the scenario lacks a key that it needs. Usually `slots` or `arbiter`
-stands below `[[board]]`, so that it is a key of that board, or
+is written below `[[board]]`, so that it is a key of that board, or
 `release = \"rwd\"` has no `burst` beside it. Write the key, and write all keys of
 the top table first.
 ";
@@ -170,7 +171,7 @@ pub(crate) const Q4: &str =
 The key has a value of another type than it needs, a word that is not in its
 list, a number below 0 or above 255, or a handler level outside 1 to 7. Usually
 a word is in capitals, as in `arbiter = \"PRI\"`, a number has quotes or a point,
-a list has no brackets, as in `handler = 4`, or `[board]` stands for
+a list has no brackets, as in `handler = 4`, or `[board]` is written for
 `[[board]]`. Correct the value.
 ";
 
@@ -183,8 +184,8 @@ Memory ran out while the scenario was read. Usually a limit of memory, such as
 pub(crate) const X1: &str =
     "X1 the trace does not begin with vme 1 or vme 2
 The first line of the trace is complete and not a header, or there is no byte at
-all. Usually the header is missing or misspelled, another line comes before it,
-or the file has CRLF line ends, a byte order mark or the encoding UTF-16. Write
+all. Usually the header is missing or misspelled, another line is above it, or
+the file has CRLF line ends, a byte order mark or the encoding UTF-16. Write
 `vme 1` or `vme 2` as the whole first line, in ASCII, and end each line with a
 line feed alone.
 ";
