@@ -1,5 +1,5 @@
 -- The codes that are no rules: for each its name, and the text that explains it. (Profile.)
-use Rattle.std.specs.Prelude.{ℕ, Option, Some, None, List, [], ◌∷◌, ◌++◌, codes, find}
+use Rattle.std.specs.Prelude.{ℕ, Option, List, [], ◌∷◌, ◌++◌, codes, find}
 use Rattle.std.specs.Str.{bytes_eq}
 use Rattle.vme_rulebook.specs.declared.codes.Code.{Code}
 use Rattle.vme_rulebook.specs.declared.codes.Code.TheVariants.{E3, E4, F1, F2, F3, F4, F5, F6, L3, L4, L6, P1, P2, P3, P4, P5, P6, P7, P8, P9, Q1, Q2, Q3, Q4, Q6, X1, X2, X3, X4, X5, X6, X8, X9, X10, X11, X17}
