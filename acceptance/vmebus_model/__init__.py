@@ -5,6 +5,7 @@ Where to begin: rules.py has G1 to G26 and S1 to S4, and bus.py the words in whi
 - traces.py, toml.py and backplane.py: edges, traces and scenarios, and the faults of both;
 - verdicts.py and judging.py: which refusal is the first; `replay`, `check`, and the program without words;
 - sources.py: the table of the rules, their sentences and where each condition comes from;
+- codes.py: the other codes, as FAULTS.md and RULES.md explain them;
 - explain.py with readings.py, state.py, show.py, summary.py with events.py: what is told of a trace;
 - shrink.py: a few of the edges before an edge, with which it has the same answer;
 - cycles.py: the transactions of a trace;

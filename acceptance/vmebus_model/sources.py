@@ -1,4 +1,5 @@
-"""The table of the rules: for each a sentence, and where each of its conditions comes from; and `rule`, which writes it.
+"""The table of the rules: for each a sentence, and where each of its conditions comes from; and `rule`, which writes it, and
+explains the other codes.
 
 A condition is the standard's if a sentence of the standard asks for just that, times aside.  What makes it stricter, or says
 when, is this project's profile.  The standard's text was not at hand: `FROM_MEMORY` has the sources that rest on no more
@@ -6,6 +7,8 @@ than a memory of it.
 """
 
 from typing import Dict, NamedTuple, Tuple
+
+from .codes import CODES
 
 
 class Source(NamedTuple):
@@ -209,14 +212,16 @@ def line_of(condition, source, width):
 
 
 def lines_of(name):
-    """The lines of one rule."""
+    """The lines of one rule, or of another code."""
+    if name in CODES:
+        return CODES[name]
     conditions = TABLE[name].conditions
     width = max(map(len, conditions), default=0)
     return [first_line(name), *(line_of(it, source, width) for it, source in conditions.items())]
 
 
 def rule(names, console):
-    """`rule`: all sentences, or one rule."""
+    """`rule`: all sentences, or one rule or another code."""
     lines = lines_of(*names) if names else map(first_line, TABLE)
     console.write("".join(f"{it}\n" for it in lines))
     return 0

@@ -6,6 +6,7 @@ from typing import Dict, List
 
 from .draw import goals, why_no_goal
 from .faults import Fault, WrongWords
+from .codes import CODES
 from .sources import TABLE, unmarked
 from .traces import name_of
 
@@ -184,8 +185,8 @@ def window_of(job):
 
 
 def rule_of(job):
-    """A rule, if there is one of that name."""
-    demand(all(it in TABLE for it in job.files), "no such rule")
+    """A rule or another code, if there is one of that name."""
+    demand(all(it in TABLE or it in CODES for it in job.files), "no such rule")
     return job
 
 

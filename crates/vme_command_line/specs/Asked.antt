@@ -6,8 +6,6 @@ use Rattle.clap.specs.Words.{IsAmong, Row, Text, all_of, fault_of, first_of, one
 use Rattle.clap.specs.declared.error.kind.ErrorKind.TheVariants.{DisplayVersion}
 use Rattle.vme_model.specs.declared.Version.{Version}
 use Rattle.vme_model.specs.declared.Version.TheVariants.{One, Two}
-use Rattle.vme_model.specs.declared.Rule.{Rule}
-use Rattle.vme_model.specs.Sentences.{rule_named}
 use Rattle.vme_model.specs.declared.Driver.{Driver}
 use Rattle.vme_goals.specs.declared.goals.Aim.{Aim}
 use Rattle.vme_goals.specs.declared.goals.Goal.{Goal}
@@ -18,6 +16,8 @@ use Rattle.vme_command_line.specs.declared.Job.{Job}
 use Rattle.vme_command_line.specs.declared.Job.TheVariants.{Joined, OwnVersion, Replay, Check, Checks, Explain, Shrink, Rules, State, Show, Cycles, Summary, Sums, Races, Walk, OtherOrder, Same, Order, Drive, Draw, Search, Run}
 use Rattle.vme_command_line.specs.Limits.{IsNoWindow}
 use Rattle.vme_moments.specs.declared.slacks.Slacks.{Slacks}
+use Rattle.vme_rulebook.specs.declared.Entry.{Entry}
+use Rattle.vme_rulebook.specs.Entries.{entry_named}
 use Rattle.vme_command_line.specs.Numbers.{IsSeed}
 use Rattle.vme_command_line.specs.Slacks.{AreAll, AreSlacks, NameNoSlacks}
 
@@ -114,16 +114,16 @@ AreTried rows first last = (named : Text) × (first_of (codes "seeds") rows ≡ 
 abbrev pub IsProgress : List Row → Bool → Type 0
 IsProgress rows progress = IsFlag (codes "progress") rows progress
 
--- the rule that the operand NAME names; none if it is not given
-abbrev pub IsRule : List Row → Option Rule → Type 0
-IsRule rows None = first_of (codes "NAME") rows ≡ None
-IsRule rows (Some rule) = (named : Text) × (first_of (codes "NAME") rows ≡ Some named)
-    × (rule_named named ≡ Some rule)
+-- the rule or other code that the operand NAME names; none if it is not given
+abbrev pub IsEntry : List Row → Option Entry → Type 0
+IsEntry rows None = first_of (codes "NAME") rows ≡ None
+IsEntry rows (Some entry) = (named : Text) × (first_of (codes "NAME") rows ≡ Some named)
+    × (entry_named named ≡ Some entry)
 
--- the operand NAME names no rule
-abbrev pub IsNoRule : List Row → Type 0
-IsNoRule rows = (named : Text) × (first_of (codes "NAME") rows ≡ Some named)
-    × (rule_named named ≡ None)
+-- the operand NAME names neither
+abbrev pub IsNoEntry : List Row → Type 0
+IsNoEntry rows = (named : Text) × (first_of (codes "NAME") rows ≡ Some named)
+    × (entry_named named ≡ None)
 
 -- the slacks that `--slack` names; no driver has slack if it is not given
 abbrev pub AreTheSlacks : List Row → Slacks → Type 0
@@ -147,7 +147,7 @@ AsksFor name rows (Explain scenario trace edge) = (name ≡ codes "explain")
 AsksFor name rows (Shrink scenario trace edge) = (name ≡ codes "shrink")
     × IsFile (codes "SCENARIO") rows scenario.now × IsFile (codes "TRACE") rows trace.now
     × (spelled (codes "edge") rows ≡ edge)
-AsksFor name rows (Rules rule) = (name ≡ codes "rule") × IsRule rows rule
+AsksFor name rows (Rules entry) = (name ≡ codes "rule") × IsEntry rows entry
 AsksFor name rows (State scenario trace after) = (name ≡ codes "state")
     × IsFile (codes "SCENARIO") rows scenario.now × IsFile (codes "TRACE") rows trace.now
     × (spelled (codes "after") rows ≡ after)
@@ -240,7 +240,7 @@ abbrev pub IsNoJob : Text → List Row → Type 0
 IsNoJob name rows =
     ((name ≡ codes "show") × IsNoWindow (first_of_window rows) (last_of_window rows))
     ⊎ ((name ≡ codes "drive") × ((IsNoAim rows ⊎ IsIdle rows) ⊎ AreNotTried rows))
-    ⊎ ((name ≡ codes "rule") × IsNoRule rows)
+    ⊎ ((name ≡ codes "rule") × IsNoEntry rows)
     ⊎ ((name ≡ codes "order") × IsNoSlack rows)
     ⊎ ((name ≡ codes "drive") × IsUnaimed rows)
     ⊎ ((name ≡ codes "races") × AreTwoEdges rows)

@@ -45,13 +45,13 @@ fn moments_file<'a>(alloc: Global) -> Arg<'a>
     file(alloc, "MOMENTS", help)
 }
 
-/// The argument for the name of a rule, which may be left out.
+/// The argument for the name of a rule or another code, which may be left out.
 fn rule_name<'a>(alloc: Global) -> Arg<'a>
     ensures { rule_of result ≡ said.word (codes "NAME") }
 {
     Arg::new(alloc, "NAME")
         .action(ArgAction::Set)
-        .help("Which rule, such as G13 [default: all]")
+        .help("Which rule or other code, such as G13 or X2 [default: all rules]")
 }
 
 /// The argument for the files of traces, of which at least one is required.

@@ -18,7 +18,9 @@ start from.
 Exit status: 0 done; 1 a fault (one line on standard error), or a text such as this one, which
 goes to standard error, too (`vmebus --help 2>&1 | less`); 2 some edge was refused, no order of
 moments is legal, or two traces differ; 3 the limit of edges was reached, or `--until` did not
-come to its event. Under `set -e` the statuses 2 and 3 end a script.";
+come to its event. Under `set -e` the statuses 2 and 3 end a script.
+
+A code such as G13 or X2: `vmebus rule CODE` explains it.";
 
 pub(crate) const REFUSED_EDGE: &str =
     "Which edge, 1 the first [default: the first that is refused]";
@@ -43,7 +45,9 @@ counts them. The exit status is 2 if an edge was refused.
 
 Examples:
   vmebus replay board.toml tenure.vme
-  vmebus replay board.toml tenure.vme --full";
+  vmebus replay board.toml tenure.vme --full
+
+A code such as G13 or X2: `vmebus rule CODE` explains it.";
 
 pub(crate) const CHECK: &str =
     "Prints whether every edge of each trace is allowed, or which is the first that is not";
@@ -63,7 +67,9 @@ refused.
 
 Examples:
   vmebus check board.toml tenure.vme
-  vmebus check board.toml drawn-1.vme drawn-2.vme drawn-3.vme";
+  vmebus check board.toml drawn-1.vme drawn-2.vme drawn-3.vme
+
+A code such as G13 or X2: `vmebus rule CODE` explains it.";
 
 pub(crate) const EXPLAIN: &str = "Says why an edge of a trace is accepted or refused";
 
@@ -84,7 +90,9 @@ A settling rule is tested only if all conditions before it hold. No source was c
 text of the standard: look it up before you rely on it.
 
 Example:
-  vmebus explain board.toml tenure.vme --edge 8";
+  vmebus explain board.toml tenure.vme --edge 8
+
+A code such as G13 or X2: `vmebus rule CODE` explains it.";
 
 pub(crate) const SHRINK: &str =
     "Prints a short trace in which an edge of a trace is accepted or refused in the same way";
@@ -101,9 +109,11 @@ exit status is 0 if the edge is accepted, 2 if it is refused, and 1 at a fault.
 docs/COMMANDS.md says which edges are left out.
 
 Example:
-  vmebus shrink board.toml tenure.vme --edge 8 > short.vme";
+  vmebus shrink board.toml tenure.vme --edge 8 > short.vme
 
-pub(crate) const RULE: &str = "Prints the rules, or where the conditions of one rule come from";
+A code such as G13 or X2: `vmebus rule CODE` explains it.";
+
+pub(crate) const RULE: &str = "Prints the rules, or explains one rule or another code";
 
 pub(crate) const RULE_USAGE: &str = "vmebus rule [NAME]";
 
@@ -115,8 +125,14 @@ E1, E2, G1 to G26, S1 to S4 or E5; of these E1, E2 and E5 have no source. No sou
 with the text of the standard: look it up before you rely on it. docs/RULES.md has the guards, and
 says which sources are from memory. docs/COMMANDS.md has each line.
 
-Example:
-  vmebus rule G13";
+If NAME is another code that the program prints, E3, E4 or that of a fault such as X2, it prints
+what the code means, what usually causes it, and what to do. docs/FAULTS.md says more of faults.
+
+Examples:
+  vmebus rule G13
+  vmebus rule X2
+
+A code such as G13 or X2: `vmebus rule CODE` explains it.";
 
 pub(crate) const STATE: &str =
     "Prints where the bus stands after a trace, or after its first edges";
@@ -131,7 +147,9 @@ no further than the N-th edge; N counts refused edges too, and 0 is power-up. Th
 is 0, or 1 at a fault. docs/COMMANDS.md has each line.
 
 Example:
-  vmebus state board.toml tenure.vme --after 4";
+  vmebus state board.toml tenure.vme --after 4
+
+A code such as G13 or X2: `vmebus rule CODE` explains it.";
 
 pub(crate) const SHOW: &str =
     "Draws a timing picture of a trace, a row for each wire and a column for each edge";
@@ -153,7 +171,9 @@ to `g` for 7. It reads no further than edge B. The exit status is 2 if one of th
 is refused, 0 if none is, and 1 at a fault. docs/COMMANDS.md has each line.
 
 Example:
-  vmebus show board.toml tenure.vme --from 1 --to 8";
+  vmebus show board.toml tenure.vme --from 1 --to 8
+
+A code such as G13 or X2: `vmebus rule CODE` explains it.";
 
 pub(crate) const CYCLES: &str =
     "Prints a line for each cycle, each tenure and each refused edge of a trace";
@@ -178,7 +198,9 @@ the end of the trace has `A..` in place of `A..Z`. The last line,
 if an edge was refused, 0 if none was, and 1 at a fault. docs/COMMANDS.md has each line.
 
 Example:
-  vmebus cycles board.toml tenure.vme";
+  vmebus cycles board.toml tenure.vme
+
+A code such as G13 or X2: `vmebus rule CODE` explains it.";
 
 pub(crate) const SUMMARY: &str =
     "Counts what traces exercised, who waited for the bus and who held it";
@@ -200,7 +222,9 @@ a fault, it prints no sums. docs/COMMANDS.md has each line.
 
 Examples:
   vmebus summary board.toml tenure.vme
-  vmebus summary board.toml drawn-1.vme drawn-2.vme drawn-3.vme";
+  vmebus summary board.toml drawn-1.vme drawn-2.vme drawn-3.vme
+
+A code such as G13 or X2: `vmebus rule CODE` explains it.";
 
 pub(crate) const RACES: &str =
     "Prints which edges could have come in another order, and with which outcome";
@@ -233,7 +257,9 @@ judged, and with --edge the exit status is 2 only if edge N is refused.
 
 Examples:
   vmebus races board.toml tenure.vme
-  vmebus races board.toml tenure.vme --other 8 > other.vme";
+  vmebus races board.toml tenure.vme --other 8 > other.vme
+
+A code such as G13 or X2: `vmebus rule CODE` explains it.";
 
 pub(crate) const RACES_EDGE: &str =
     "Print how much earlier edge N could have come, 1 the first [default: print all races]";
@@ -268,7 +294,9 @@ files are read side by side, to their ends. The exit status is 0 if the traces a
 they are not, and 1 after a fault. docs/COMMANDS.md describes each line.
 
 Example:
-  vmebus same board.toml tenure.vme other.vme";
+  vmebus same board.toml tenure.vme other.vme
+
+A code such as G13 or X2: `vmebus rule CODE` explains it.";
 
 pub(crate) const ORDER: &str =
     "Prints a legal order of edges that were seen at the same moments, if there is one";
@@ -295,7 +323,9 @@ a line with its number, its line in MOMENTS, its moment and, if it is refused, i
 docs/COMMANDS.md has each line, and docs/RTL.md says how to print moments.
 
 Example:
-  vmebus order board.toml seen.vme --slack c=2 > tenure.vme";
+  vmebus order board.toml seen.vme --slack c=2 > tenure.vme
+
+A code such as G13 or X2: `vmebus rule CODE` explains it.";
 
 pub(crate) const DRIVE: &str =
     "Prints a trace that the drivers of a scenario make in turn, or one that is drawn at random";
@@ -342,7 +372,9 @@ Examples:
   vmebus drive board.toml --edges 1000 --seed 7 > drawn.vme
   vmebus drive board.toml --edges 1000 --seed 7 --until \"G13 own br is low\" > refused.vme
   vmebus drive board.toml --edges 60 --seeds 0..1000 --until bus-error > error.vme
-  vmebus drive board.toml --edges 200 --seeds 0..99 --until G13 --of 2 --after 20 > refused.vme";
+  vmebus drive board.toml --edges 200 --seeds 0..99 --until G13 --of 2 --after 20 > refused.vme
+
+A code such as G13 or X2: `vmebus rule CODE` explains it.";
 
 pub(crate) const RUN: &str =
     "Prints a trace that the drivers of a scenario make at the same time, a thread for each";
@@ -356,4 +388,6 @@ turns were spent before that, which is not an error. Two runs may differ; what e
 legal.
 
 Example:
-  vmebus run board.toml --edges 1000 --turns 100000 > tenure.vme";
+  vmebus run board.toml --edges 1000 --turns 100000 > tenure.vme
+
+A code such as G13 or X2: `vmebus rule CODE` explains it.";

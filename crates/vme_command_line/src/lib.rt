@@ -31,8 +31,9 @@ use names::job_of;
 use slacks::slacks_in;
 use std::alloc::Global;
 use vme_goals::Goal;
-use vme_model::{Rule, TRACE_LIMIT, Version};
+use vme_model::{TRACE_LIMIT, Version};
 use vme_moments::Slacks;
+use vme_rulebook::Entry;
 
 /// The program's name and its version, as the line that `--version` prints. The version stands only
 /// here.
@@ -102,10 +103,11 @@ pub enum Job<'a> {
         /// The edge, counted from 1. If it is not given, it is the first edge that is refused.
         edge: Option<u64>,
     },
-    /// Print the rules.
+    /// Print the rules, or explain a code.
     Rules {
-        /// The rule whose conditions are printed. Without it, all rules are, a sentence each.
-        rule: Option<Rule>,
+        /// The rule or other code that is explained. Without it, all rules are printed, a sentence
+        /// each.
+        entry: Option<Entry>,
     },
     /// Report where the bus stands in a trace.
     State {
@@ -285,7 +287,7 @@ pub(crate) enum Unfit<'a> {
     Idle,
     /// There are both an edge and an edge whose other order is asked for.
     TwoEdges,
-    /// No rule has this name.
+    /// No rule and no other code has this name.
     Rule { named: &'a str },
     /// The text does not name slacks.
     Slack { named: &'a str },
@@ -457,16 +459,16 @@ fn shrink_of<'a>(scenario: &'a str, operands: &ArgMatches<'a>) -> Result<Job<'a>
     })
 }
 
-/// The rules, with the name of one if it is given.
+/// The rules, or the name of what is to be explained if it is given.
 fn rules_of<'a>(operands: &ArgMatches<'a>) -> Result<Job<'a>, Unfit<'a>>
     ensures within { IfOk result IsWithin }
     ensures asked { IfOk result (AsksFor (codes "rule") (rows_of (found_of operands.now))) }
     ensures unfit { IfErr result (IsUnfit (codes "rule") (rows_of (found_of operands.now))) }
 {
     match text_of(operands, "NAME") {
-        None => Ok(Job::Rules { rule: None }),
-        Some(named) => match Rule::named(named.as_bytes()) {
-            Some(rule) => Ok(Job::Rules { rule: Some(rule) }),
+        None => Ok(Job::Rules { entry: None }),
+        Some(named) => match Entry::named(named.as_bytes()) {
+            Some(entry) => Ok(Job::Rules { entry: Some(entry) }),
             None => Err(Unfit::Rule { named }),
         },
     }

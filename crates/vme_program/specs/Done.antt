@@ -1,9 +1,10 @@
 -- What a job leaves on its output, and returns.
 use Rattle.std.specs.Prelude.{◌≡◌, ◌⊎◌, ℕ, List, Option, Some, None, Result, Ok, Err}
 use Rattle.std.specs.Io.KnownBytes.{Appends, Keeps}
-use Rattle.vme_model.specs.declared.Rule.{Rule}
 use Rattle.vme_model.specs.Plan.{Plan}
-use Rattle.vme_rulebook.specs.Pages.{list, page}
+use Rattle.vme_rulebook.specs.declared.Entry.{Entry}
+use Rattle.vme_rulebook.specs.Entries.{entry_text}
+use Rattle.vme_rulebook.specs.Pages.{list}
 use Rattle.vme_scenario.specs.Format.{scenario as read}
 use Rattle.vme_trace.specs.declared.Fault.{Fault}
 use Rattle.vme_trace.specs.declared.Fault.TheVariants.{Write}
@@ -72,9 +73,9 @@ PrintsText text old new (Ok status) = Appends old new text × (status ≡ ends.D
 PrintsText text old new (Err (fault.Trace f)) = (f ≡ Write) × AppendsFront old new text
 PrintsText text old new (Err _) = ⊥
 
--- one rule with its conditions, or all rules in a sentence each
-abbrev pub rules_text : Option Rule → List ℕ
-rules_text (Some rule) = page rule
+-- a rule or another code explained, or all rules in a sentence each
+abbrev pub rules_text : Option Entry → List ℕ
+rules_text (Some entry) = entry_text entry
 rules_text None = list
 
 -- what the engine `order` does on a plan and moments
@@ -109,7 +110,7 @@ abbrev pub Does : Job → Known → Known → Result Status RunFault → Type 0
 Does Joined old new =
     Alone (λ answer. (from : Known) × (to : Known) × Joins (streams from to old new) answer)
 Does OwnVersion old new = Alone (PrintsText VERSION.now old new)
-Does (Rules rule) old new = Alone (PrintsText (rules_text rule) old new)
+Does (Rules entry) old new = Alone (PrintsText (rules_text entry) old new)
 Does (Replay scenario trace full) old new =
     Alone (OnTrace (ReplaysInput (line_form full)) old new)
 Does (Check scenario trace) old new = Alone (OnTrace ChecksInput old new)

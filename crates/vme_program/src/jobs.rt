@@ -33,11 +33,11 @@ use vme_engines::{
     plan_of, replay, show, state, summary,
 };
 use vme_goals::Goal;
-use vme_model::{Rule, Version};
+use vme_model::Version;
 use vme_moments::Slacks;
 use vme_order::{Form, OrderingFault, order};
 use vme_races::{OtherOrder, other_order, races, walk_of_edge};
-use vme_rulebook::{all_rules, one_rule};
+use vme_rulebook::{Entry, all_rules};
 use vme_run::{RunFault, run as run_scenario};
 use vme_same::compare;
 use vme_shrink::shrink;
@@ -186,12 +186,12 @@ fn run_version<W: Write>(out: &mut W) -> Result<Status, ProgramFault<'static>>
     run_text(VERSION.as_bytes(), out)
 }
 
-/// One rule with its conditions, or all rules in a sentence each.
-fn rules_text(rule: Option<Rule>) -> Text
-    ensures { result ≡ rules_text rule }
+/// A rule or another code explained, or all rules in a sentence each.
+fn rules_text(entry: Option<Entry>) -> Text
+    ensures { result ≡ rules_text entry }
 {
-    match rule {
-        Some(rule) => one_rule(rule),
+    match entry {
+        Some(entry) => entry.text(),
         None => all_rules(),
     }
 }
@@ -214,13 +214,13 @@ fn run_shrink<'a, W: Write>(
     answer_of(scenario, shrink(rt.alloc(), &text, &mut input, edge, out))
 }
 
-/// Prints the rules.
+/// Prints the rules, or explains a code.
 #[inline(never)]
-fn run_rules<W: Write>(rule: Option<Rule>, out: &mut W) -> Result<Status, ProgramFault<'static>>
-    ensures fault { IfErr result (IsFaultOf (Job.Rules rule)) }
-    ensures done { IsDone (Job.Rules rule) (W.contents out.old) (W.contents out.new) result }
+fn run_rules<W: Write>(entry: Option<Entry>, out: &mut W) -> Result<Status, ProgramFault<'static>>
+    ensures fault { IfErr result (IsFaultOf (Job.Rules entry)) }
+    ensures done { IsDone (Job.Rules entry) (W.contents out.old) (W.contents out.new) result }
 {
-    run_text(rules_text(rule).as_slice(), out)
+    run_text(rules_text(entry).as_slice(), out)
 }
 
 /// What a replay writes of each edge, with `--full` and without.
@@ -681,7 +681,7 @@ pub fn run<'a, R: Threads + Wait + Sync, W: Write>(
             trace,
             edge,
         } => run_shrink(rt, scenario, trace, edge, out),
-        Job::Rules { rule } => run_rules(rule, out),
+        Job::Rules { entry } => run_rules(entry, out),
         Job::State {
             scenario,
             trace,

@@ -8,6 +8,7 @@ ghost use Rattle.vme_program.specs.Done.{IsObeyed};
 
 mod arguments;
 mod checks;
+mod codes;
 mod comparisons;
 mod escapes;
 mod faults;
