@@ -263,6 +263,8 @@ first of these lines that applies:
           edge N of OTHER could come before edge I of TRACE, with this outcome: see `races`
   differ N EDGE left
           OTHER has ended, and edge N of TRACE is left
+Below `missing`, `far`, `waits for` and `races` comes a second line, which begins with four blanks:
+the first edge of the same driver that is left in TRACE, with its number there, or `none`.
 `differ` is no proof that the traces are not the same: other swaps may still join them. Both
 files are read side by side, to their ends. The exit status is 0 if the traces are the same, 2 if
 they are not, and 1 after a fault. docs/COMMANDS.md describes each line.
