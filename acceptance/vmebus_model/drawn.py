@@ -5,6 +5,7 @@ Every number has its own draw, so that `--drawn 1 --seed S` makes the S-th anew.
 
 import os
 import random
+import re
 import subprocess
 import tempfile
 from pathlib import Path
@@ -22,6 +23,9 @@ from .traces import HEADERS, Trace, text_of
 from .words import COMMANDS, FLAGS, GREATEST, NEEDED, RANGES, job_of
 
 SECONDS = 60
+
+# Lines about how far a search came, behind the first, which come only if it takes more than a second.
+LATER = re.compile(rb"(?<=\n)trying .*\n")
 FILES = ["scenario.toml", "trace.vme", "second.vme", "accepted.vme", "shuffled.vme"]
 
 # Values of options: two that are right, and others; those of the options that are not named here are NUMBERS.
@@ -44,7 +48,7 @@ def words_of(draw, edges, racing):
     begin, files = draw.randint(1, edges + 1), FILES[:2]
     yield from (["replay", *files], ["check", *files], [], ["explain", *files])
     yield from (["explain", *files, "--edge", str(draw.randint(1, edges + 1))] for _ in range(3))
-    yield ["shrink", *files, *draw.choice([[], ["--edge", str(draw.randint(1, edges + 1))]])]
+    yield ["shrink", *files, *draw.choice([[], ["--progress"], ["--edge", str(draw.randint(1, edges + 1))]])]
     yield ["state", *files, *draw.choice([[], ["--after", str(draw.randint(0, edges + 1))]])]
     end = begin + draw.randint(-1, 200)
     window = draw.choice([[], ["--from", str(begin)], ["--to", str(begin)], ["--from", str(begin), "--to", str(end)]])
@@ -180,8 +184,9 @@ def difference(words, ran, status, console):
         return f"the program ends with {ran.returncode}, {ran.stderr[:90]!r}, the model with {status}, {console.told[:90]!r}"
     if ran.stdout != console.output:
         return first_difference("standard output", console.output, ran.stdout)
-    if ran.stderr != console.told and b"wrong words" not in console.told:
-        return first_difference("standard error", console.told, ran.stderr)
+    told = LATER.sub(b"", ran.stderr)
+    if told != console.told and b"wrong words" not in console.told:
+        return first_difference("standard error", console.told, told)
     return None
 
 

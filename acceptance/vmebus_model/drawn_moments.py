@@ -161,8 +161,8 @@ class DrawnMoments:
         text = with_more_moments(draw, moments.text_of(version, seen))
         self.moments = faulty(draw, text) if some(draw, 0.1) else text
         other = draw.choice([slack_words, ["--slack", draw.choice(["0", "1", "2", "c=1", "c=2"])]])
-        where = draw.choice([[], ["--where"]])
-        self.words = [["order", *FILES, *slack_words], ["order", *FILES, *other, *where]]
+        more = draw.choice([[], ["--where"], ["--progress"], ["--where", "--progress"]])
+        self.words = [["order", *FILES, *slack_words], ["order", *FILES, *other, *more]]
 
     def lay_out(self, folder):
         """Writes the files."""
@@ -188,9 +188,9 @@ class DrawnMoments:
 def difference_but_of_many(words, ran, status, console):
     """What differs between a run of the program and the model; where F5 may be told, so may an
     answer."""
-    if console.told == TOO_MANY and ran.returncode != 1:
+    if console.told.endswith(TOO_MANY) and ran.returncode != 1:
         return None
-    tells_too_many = (ran.returncode, ran.stderr, ran.stdout) == (1, TOO_MANY, b"")
+    tells_too_many = (ran.returncode, ran.stdout) == (1, b"") and ran.stderr.endswith(TOO_MANY)
     if tells_too_many and may_be_too_many(words, console):
         return None
     return difference(words, ran, status, console)

@@ -185,6 +185,8 @@ def order(plan, read, options, console):
     """Writes the least legal order; if there is none, what comes furthest, and the edges that are
     refused there."""
     question = question_of(plan, read, options)
+    if "--progress" in options and question.seen:
+        console.tell(f"trying length 1 of {len(question.seen)}, beginnings 1")
     answer = answer_to(question)
     written = [question.seen[place] for place in answer.places + answer.refused]
     if "--where" in options:

@@ -142,7 +142,7 @@ def done(job, console):
     options = job.options
     plan = backplane.read(scenario)
     reach.refuse(plan, goal_of(options))
-    if "--progress" in options:
+    if "--seeds" in options and "--progress" in options:
         console.tell(f"trying seed {options['--seeds'][0]}")
     if job.command == "run":
         return run(plan, options, console)

@@ -16,6 +16,8 @@ def shrink(plan, trace, options, console):
         return 0
     answer, kept = Answer(plan, trace.version, edge), legal_part(Bus(plan, trace.version), seen[:-1])
     verdict = answer.after(kept)[0]
+    if "--progress" in options and kept and verdict != "E5":
+        console.tell(f"trying stretches of {first_size(kept)}, at edge {len(kept)} of {len(kept)}")
     story = kept if verdict == "E5" else story_of(kept, answer.keeping(kept))
     console.write(text_of(trace.version, [*story, edge]))
     return 0 if is_ok(verdict) else 2
@@ -69,9 +71,14 @@ def story_of(edges, keeping):
     return shorter
 
 
+def first_size(edges):
+    """The least power of two that is not below their number."""
+    return 1 << max(len(edges) - 1, 0).bit_length()
+
+
 def run(edges, keeping):
     """A pass of each size, from a power of two down to 1; one of size 1 that left something out is followed by another."""
-    size = 1 << max(len(edges) - 1, 0).bit_length()
+    size = first_size(edges)
     while size:
         before, edges = len(edges), passed(edges, size, keeping)
         if size > 1 or len(edges) == before:

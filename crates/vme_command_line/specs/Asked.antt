@@ -144,9 +144,9 @@ AsksFor name rows (Checks scenario traces) = (name ≡ codes "check")
 AsksFor name rows (Explain scenario trace edge) = (name ≡ codes "explain")
     × IsFile (codes "SCENARIO") rows scenario.now × IsFile (codes "TRACE") rows trace.now
     × (spelled (codes "edge") rows ≡ edge)
-AsksFor name rows (Shrink scenario trace edge) = (name ≡ codes "shrink")
+AsksFor name rows (Shrink scenario trace edge progress) = (name ≡ codes "shrink")
     × IsFile (codes "SCENARIO") rows scenario.now × IsFile (codes "TRACE") rows trace.now
-    × (spelled (codes "edge") rows ≡ edge)
+    × (spelled (codes "edge") rows ≡ edge) × IsProgress rows progress
 AsksFor name rows (Rules entry) = (name ≡ codes "rule") × IsEntry rows entry
 AsksFor name rows (State scenario trace after) = (name ≡ codes "state")
     × IsFile (codes "SCENARIO") rows scenario.now × IsFile (codes "TRACE") rows trace.now
@@ -173,9 +173,9 @@ AsksFor name rows (OtherOrder scenario trace edge) = (name ≡ codes "races")
 AsksFor name rows (Same scenario trace other) = (name ≡ codes "same")
     × IsFile (codes "SCENARIO") rows scenario.now × IsFile (codes "TRACE") rows trace.now
     × IsFile (codes "OTHER") rows other.now
-AsksFor name rows (Order scenario moments slacks places) = (name ≡ codes "order")
+AsksFor name rows (Order scenario moments slacks places progress) = (name ≡ codes "order")
     × IsFile (codes "SCENARIO") rows scenario.now × IsFile (codes "MOMENTS") rows moments.now
-    × AreTheSlacks rows slacks × IsFlag (codes "where") rows places
+    × AreTheSlacks rows slacks × IsFlag (codes "where") rows places × IsProgress rows progress
 AsksFor name rows (Drive scenario edges version) = (name ≡ codes "drive")
     × IsFile (codes "SCENARIO") rows scenario.now × AreOptions rows edges version
     × (spelled (codes "seed") rows ≡ None) × (first_of (codes "seeds") rows ≡ None)

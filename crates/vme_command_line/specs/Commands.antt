@@ -120,7 +120,7 @@ abbrev pub explain : Shape
 explain = (leaf (codes "explain") (file (codes "TRACE") ∷ edge ∷ [])).top
 
 abbrev pub shrink : Shape
-shrink = (leaf (codes "shrink") (file (codes "TRACE") ∷ edge ∷ [])).top
+shrink = (leaf (codes "shrink") (file (codes "TRACE") ∷ edge ∷ progress ∷ [])).top
 
 -- `rule` takes no scenario
 abbrev pub rule : Shape
@@ -145,7 +145,8 @@ abbrev pub same : Shape
 same = (leaf (codes "same") (file (codes "TRACE") ∷ file (codes "OTHER") ∷ [])).top
 
 abbrev pub order : Shape
-order = (leaf (codes "order") (file (codes "MOMENTS") ∷ slack ∷ places ∷ [])).top
+order =
+    (leaf (codes "order") (file (codes "MOMENTS") ∷ slack ∷ places ∷ progress ∷ [])).top
 
 abbrev pub drive : Shape
 drive =

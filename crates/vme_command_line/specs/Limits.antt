@@ -28,7 +28,7 @@ IsWithin (Replay scenario trace full) = Unit {0}
 IsWithin (Check scenario trace) = Unit {0}
 IsWithin (Checks scenario traces) = Unit {0}
 IsWithin (Explain scenario trace edge) = IfSome edge (λ n. 1 ≤ n)
-IsWithin (Shrink scenario trace edge) = IfSome edge (λ n. 1 ≤ n)
+IsWithin (Shrink scenario trace edge progress) = IfSome edge (λ n. 1 ≤ n)
 IsWithin (Rules entry) = Unit {0}
 IsWithin (State scenario trace after) = Unit {0}
 IsWithin (Show scenario trace from to color) = (1 ≤ from) × IsWindow from to
@@ -39,6 +39,6 @@ IsWithin (Races scenario trace) = Unit {0}
 IsWithin (Walk scenario trace edge) = 1 ≤ edge
 IsWithin (OtherOrder scenario trace edge) = 1 ≤ edge
 IsWithin (Same scenario trace other) = Unit {0}
-IsWithin (Order scenario moments slacks places) = Unit {0}
+IsWithin (Order scenario moments slacks places progress) = Unit {0}
 IsWithin (Run scenario edges turns version) =
     (1 ≤ edges) × (edges ≤ trace_limit) × (1 ≤ turns) × (turns ≤ most_turns)

@@ -228,11 +228,10 @@ fn color_option<'a>(alloc: Global) -> Arg<'a>
     flag(alloc, "color", help)
 }
 
-fn progress_option<'a>(alloc: Global) -> Arg<'a>
+/// The option for reports of how far a search came.
+fn progress_option<'a>(alloc: Global, help: &'a str) -> Arg<'a>
     ensures { rule_of result ≡ said.progress }
 {
-    let help =
-        "Reports on standard error which seed it tries, at most once a second; needs --seeds";
     flag(alloc, "progress", help)
 }
 
@@ -330,7 +329,8 @@ fn shrink<'a>(alloc: Global) -> Result<Command<'a>, AllocError>
     ensures { IfOk result (λ c. shape_of c ≡ said.shrink) }
 {
     let command = command_on_trace(alloc, "shrink", SHRINK, SHRINK_USAGE, SHRINK_EXAMPLE);
-    taking(command, edge_option(alloc, REFUSED_EDGE))
+    let command = taking(command, edge_option(alloc, REFUSED_EDGE));
+    taking(command, progress_option(alloc, PROGRESS))
 }
 
 /// The command `rule`, which takes no scenario.
@@ -396,7 +396,8 @@ pub(crate) fn order<'a>(alloc: Global) -> Result<Command<'a>, AllocError>
     let command = command(alloc, "order", ORDER, ORDER_USAGE, ORDER_EXAMPLE);
     let command = taking(command, moments_file(alloc));
     let command = taking(command, slack_option(alloc));
-    taking(command, where_option(alloc))
+    let command = taking(command, where_option(alloc));
+    taking(command, progress_option(alloc, PROGRESS))
 }
 
 /// The command `drive`.
@@ -410,7 +411,7 @@ pub(crate) fn drive<'a>(alloc: Global) -> Result<Command<'a>, AllocError>
     let command = taking(command, until_option(alloc));
     let command = taking(command, of_option(alloc));
     let command = taking(command, behind_option(alloc));
-    let command = taking(command, progress_option(alloc));
+    let command = taking(command, progress_option(alloc, SEEDS_PROGRESS));
     taking(command, version_option(alloc))
 }
 

@@ -25,6 +25,9 @@ A code such as G13 or X2: `vmebus rule CODE` explains it.";
 pub(crate) const REFUSED_EDGE: &str =
     "Which edge, 1 the first [default: the first that is refused]";
 
+pub(crate) const PROGRESS: &str =
+    "Reports on standard error how far the search came, at most once a second";
+
 pub(crate) const REPLAY: &str =
     "Prints the verdict on each edge of a trace, and how many were accepted and refused";
 
@@ -97,7 +100,7 @@ A code such as G13 or X2: `vmebus rule CODE` explains it.";
 pub(crate) const SHRINK: &str =
     "Prints a short trace in which an edge of a trace is accepted or refused in the same way";
 
-pub(crate) const SHRINK_USAGE: &str = "vmebus shrink <SCENARIO> <TRACE> [--edge <N>]";
+pub(crate) const SHRINK_USAGE: &str = "vmebus shrink <SCENARIO> <TRACE> [--edge <N>] [--progress]";
 
 pub(crate) const SHRINK_EXAMPLE: &str =
     "It leaves out edges before edge N as long as edge N has the same answer: its verdict, with the
@@ -107,6 +110,10 @@ shorter one with the same answer. N counts refused edges too. Without --edge it 
 edge that is refused, or prints `legal N` if none is. It reads no further than that edge. The
 exit status is 0 if the edge is accepted, 2 if it is refused, and 1 at a fault.
 docs/COMMANDS.md says which edges are left out.
+
+With --progress it reports on standard error what it tries to leave out, at most once a second:
+`trying stretches of S, at edge P of N` if N edges are left and up to S of them, which end with
+the P-th, are left out next.
 
 Example:
   vmebus shrink board.toml tenure.vme --edge 8 > short.vme
@@ -289,6 +296,8 @@ first of these lines that applies:
           edge N of OTHER could come before edge I of TRACE, with this outcome: see `races`
   differ N EDGE left
           OTHER has ended, and edge N of TRACE is left
+Below `missing`, `far`, `waits for` and `races` comes a second line, which begins with four blanks:
+the first edge of the same driver that is left in TRACE, with its number there, or `none`.
 `differ` is no proof that the traces are not the same: other swaps may still join them. Both
 files are read side by side, to their ends. The exit status is 0 if the traces are the same, 2 if
 they are not, and 1 after a fault. docs/COMMANDS.md describes each line.
@@ -301,7 +310,8 @@ A code such as G13 or X2: `vmebus rule CODE` explains it.";
 pub(crate) const ORDER: &str =
     "Prints a legal order of edges that were seen at the same moments, if there is one";
 
-pub(crate) const ORDER_USAGE: &str = "vmebus order <SCENARIO> <MOMENTS> [--slack <S>] [--where]";
+pub(crate) const ORDER_USAGE: &str =
+    "vmebus order <SCENARIO> <MOMENTS> [--slack <S>] [--where] [--progress]";
 
 pub(crate) const ORDER_EXAMPLE: &str =
     "A clocked design moves several wires at once, and does not say in which order. MOMENTS is a
@@ -322,10 +332,17 @@ them is. The exit status is 2 then, and 1 at a fault. With --where each edge of 
 a line with its number, its line in MOMENTS, its moment and, if it is refused, its verdict.
 docs/COMMANDS.md has each line, and docs/RTL.md says how to print moments.
 
+With --progress it reports on standard error how far the search came, at most once a second:
+`trying length K of N, beginnings B` if it keeps B legal beginnings of K - 1 edges and makes them
+longer. If none of them reaches N, it may start once more at length 1, and keeps more of them.
+
 Example:
   vmebus order board.toml seen.vme --slack c=2 > tenure.vme
 
 A code such as G13 or X2: `vmebus rule CODE` explains it.";
+
+pub(crate) const SEEDS_PROGRESS: &str =
+    "Reports on standard error which seed it tries, at most once a second; needs --seeds";
 
 pub(crate) const DRIVE: &str =
     "Prints a trace that the drivers of a scenario make in turn, or one that is drawn at random";

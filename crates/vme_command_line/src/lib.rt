@@ -102,6 +102,8 @@ pub enum Job<'a> {
         trace: &'a str,
         /// The edge, counted from 1. If it is not given, it is the first edge that is refused.
         edge: Option<u64>,
+        /// Whether it is reported how far the search came.
+        progress: bool,
     },
     /// Print the rules, or explain a code.
     Rules {
@@ -197,6 +199,8 @@ pub enum Job<'a> {
         slacks: Slacks,
         /// Whether to print where each edge was seen, in place of the trace.
         places: bool,
+        /// Whether it is reported how far the search came.
+        progress: bool,
     },
     /// Let the drivers make edges in turn.
     Drive {
@@ -456,6 +460,7 @@ fn shrink_of<'a>(scenario: &'a str, operands: &ArgMatches<'a>) -> Result<Job<'a>
         scenario,
         trace,
         edge,
+        progress: is_flagged(operands, "progress"),
     })
 }
 
@@ -565,6 +570,7 @@ fn order_of<'a>(scenario: &'a str, operands: &ArgMatches<'a>) -> Result<Job<'a>,
         moments: file_of(operands, "MOMENTS")?,
         slacks: slacks_of(operands)?,
         places: is_flagged(operands, "where"),
+        progress: is_flagged(operands, "progress"),
     })
 }
 

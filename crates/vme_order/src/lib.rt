@@ -11,6 +11,7 @@ pub use orders::order;
 use thiserror::Error;
 use vme_engines::EngineFault;
 use vme_moments::MomentsFault;
+pub use vme_order_search::OrderProgress;
 
 /// What is written of an order.
 #[derive(Clone, Copy, PartialEq, Eq, Debug)]

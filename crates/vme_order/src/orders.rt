@@ -15,7 +15,7 @@ use vme_bus::Bus;
 use vme_engines::{EngineFault, Status, plan_of};
 use vme_model::Driver;
 use vme_moments::{Moments, MomentsFault, Slacks, read_moments};
-use vme_order_search::{Found, OrderFault, longest};
+use vme_order_search::{Found, OrderFault, OrderProgress, longest};
 use vme_slots::Plan;
 use vme_trace::{Fault, flush};
 
@@ -109,13 +109,14 @@ fn write<W: Write>(
 }
 
 /// Finds the first order of the edges that the rules allow, on a plan, and writes it.
-fn order_on<R: Read, W: Write>(
+fn order_on<R: Read, W: Write, P: OrderProgress>(
     alloc: Global,
     plan: Plan,
     moments: &mut R,
     slacks: &Slacks,
     form: Form,
     out: &mut W,
+    progress: &mut P,
 ) -> Result<Status, OrderingFault>
     requires { NamesBoards slacks.now plan }
     ensures { OrdersInput form slacks.now
@@ -123,7 +124,14 @@ fn order_on<R: Read, W: Write>(
         (W.contents out.old) (W.contents out.new)) plan result }
 {
     let moments = read_moments(alloc, moments)?;
-    let found = longest(alloc, &plan, moments.version, &moments.seen, slacks)?;
+    let found = longest(
+        alloc,
+        &plan,
+        moments.version,
+        &moments.seen,
+        slacks,
+        progress,
+    )?;
     write(form, plan, &moments, &found, out)?;
     Ok(status_of(&moments, &found))
 }
@@ -133,19 +141,20 @@ fn order_on<R: Read, W: Write>(
 ///
 /// The status is `Done` if there is one. Otherwise it writes the longest legal beginning, and of
 /// several the least, and after it the edges that could come next, each of which is refused there.
-/// The status is `SomeRefused` then.
+/// The status is `SomeRefused` then. `progress` hears how far the search came.
 ///
 /// # Errors
 /// F2 and the faults of the scenario; a slot that has a slack of its own and no board; the faults
 /// of the moments, which are read to their end; F5 and F3. In these cases nothing is written. X8 if
 /// the output cannot be written; a prefix of the text was written then.
-pub fn order<R: Read, W: Write>(
+pub fn order<R: Read, W: Write, P: OrderProgress>(
     alloc: Global,
     scenario: &[u8],
     moments: &mut R,
     slacks: &Slacks,
     form: Form,
     out: &mut W,
+    progress: &mut P,
 ) -> Result<Status, OrderingFault>
     ensures { let s = streams (R.remaining moments.old) (R.remaining moments.new)
         (W.contents out.old) (W.contents out.new) in
@@ -156,5 +165,5 @@ pub fn order<R: Read, W: Write>(
     if let Some(slot) = first_empty(&plan, slacks) {
         return Err(OrderingFault::NoBoard(slot));
     }
-    order_on(alloc, plan, moments, slacks, form, out)
+    order_on(alloc, plan, moments, slacks, form, out, progress)
 }

@@ -7,10 +7,12 @@
 
 mod free;
 mod layers;
+mod listening;
 mod search;
 mod taken;
 mod trails;
 
+pub use listening::OrderProgress;
 pub use search::{Found, longest};
 
 /// How far from the least place that is missing one lies that may come next.

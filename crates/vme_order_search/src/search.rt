@@ -12,6 +12,7 @@ ghost use Rattle.vme_order_search.specs.declared.search.Search.{Search as Search
 
 use crate::free::{next_free, next_places};
 use crate::layers::{Beginning, Layer, Match};
+use crate::listening::OrderProgress;
 use crate::taken::Taken;
 use crate::trails::Trail;
 use crate::{MOST_SETS, OrderFault, WINDOW};
@@ -311,7 +312,13 @@ impl Search {
 
     /// Searches until no beginning can be made longer, and gives how many places the last ones
     /// have.
-    fn run(&mut self, alloc: Global, seen: &[Seen], slacks: &Slacks) -> Result<usize, OrderFault>
+    fn run<P: OrderProgress>(
+        &mut self,
+        alloc: Global,
+        seen: &[Seen],
+        slacks: &Slacks,
+        progress: &mut P,
+    ) -> Result<usize, OrderFault>
         requires fit { IsFit self.old }
         requires some { 0 < length self.old.layer.kept.items }
         requires few { length seen.now < 4294967296 }
@@ -324,6 +331,7 @@ impl Search {
         ensures fault { IfErr result (λ fault. fault ≡ OrderFault.NoMemory) }
     {
         for length in 0..seen.len() {
+            progress.lengthening(length + 1, seen.len(), self.layer.len());
             self.lengthen(seen, slacks)?;
             if self.longer.is_empty() {
                 return Ok(length);
@@ -354,12 +362,13 @@ impl Search {
 }
 
 /// The longest legal beginning, by a search that keeps so many sets of places of each length.
-fn longest_within(
+fn longest_within<P: OrderProgress>(
     alloc: Global,
     start: BusState,
     seen: &[Seen],
     slacks: &Slacks,
     width: usize,
+    progress: &mut P,
 ) -> Result<Found, OrderFault>
     requires few { length seen.now < 4294967296 }
     requires ascending { AreInOrder seen.now }
@@ -370,7 +379,7 @@ fn longest_within(
         → HasTooMany t.version t.plan t.slacks t.seen }
 {
     let mut search = Search::new(alloc, start, width)?;
-    let length = search.run(alloc, seen, slacks)?;
+    let length = search.run(alloc, seen, slacks, progress)?;
     if search.is_cut && length < seen.len() {
         return Err(OrderFault::TooManyOrders);
     }
@@ -378,17 +387,19 @@ fn longest_within(
 }
 
 /// The longest legal beginning, and of those of its length the least; and what can come next after
-/// it. If it has all places, it is the least legal order, and otherwise there is none.
+/// it. If it has all places, it is the least legal order, and otherwise there is none. `progress`
+/// hears of each length before it is sought, and once more of each if a wider search follows.
 ///
 /// # Errors
 /// F5 if the legal beginnings of some length have more than 65,536 sets of places, or one goes on
 /// legally with a place that is greater by 128 or more than the least that is not in it; F3.
-pub fn longest(
+pub fn longest<P: OrderProgress>(
     alloc: Global,
     plan: &Plan,
     version: Version,
     seen: &[Seen],
     slacks: &Slacks,
+    progress: &mut P,
 ) -> Result<Found, OrderFault>
     requires few { length seen.now ≤ trace_limit }
     requires ascending { AreInOrder seen.now }
@@ -403,10 +414,10 @@ pub fn longest(
 {
     let start = BusState::new(plan, version);
     for width in WIDTHS {
-        match longest_within(alloc, start, seen, slacks, width) {
+        match longest_within(alloc, start, seen, slacks, width, progress) {
             Err(OrderFault::TooManyOrders) => {}
             found => return found,
         }
     }
-    longest_within(alloc, start, seen, slacks, MOST_SETS)
+    longest_within(alloc, start, seen, slacks, MOST_SETS, progress)
 }

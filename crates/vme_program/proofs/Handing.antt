@@ -79,24 +79,24 @@ other_done scenario trace text edge from to old new (Err (fault.Beyond n)) does 
 other_done scenario trace text edge from to old new (Err fault.NoMemory) does = inl (text, from, to, does)
 
 -- an engine on a scenario and moments
-order_done : (scenario moments : Bor (List ℕ)) (text : List ℕ) (slacks : Slacks) (places : Bool) (from to old new : Known) (answer : OrderAnswer)
+order_done : (scenario moments : Bor (List ℕ)) (text : List ℕ) (slacks : Slacks) (places progress : Bool) (from to old new : Known) (answer : OrderAnswer)
     → LentText text (ReadNothing (streams from to old new) × WroteNothing (streams from to old new)) (OrdersInput (form_of places) slacks (streams from to old new)) answer
-    → IsDone (Order scenario moments slacks places) old new (order_answer_named scenario answer)
-order_done scenario moments text slacks places from to old new (Ok status) does = (text, from, to, does)
-order_done scenario moments text slacks places from to old new (Err (order.Engine fault.CannotRead)) does = absurd does.3.2
-order_done scenario moments text slacks places from to old new (Err (order.Engine fault.TooLong)) does = does.1.1
-order_done scenario moments text slacks places from to old new (Err (order.Engine (fault.Scenario e))) does = inl (text, from, to, does)
-order_done scenario moments text slacks places from to old new (Err (order.Engine (fault.Trace f))) does = inl (text, from, to, does)
-order_done scenario moments text slacks places from to old new (Err (order.Engine (fault.Beyond n))) does = inl (text, from, to, does)
-order_done scenario moments text slacks places from to old new (Err (order.Engine fault.NoMemory)) does = inl (text, from, to, does)
-order_done scenario moments text slacks places from to old new (Err (order.Moments f)) does = (text, from, to, does)
-order_done scenario moments text slacks places from to old new (Err (order.NoBoard slot)) does = (text, from, to, does)
-order_done scenario moments text slacks places from to old new (Err order.TooManyOrders) does = (text, from, to, does)
+    → IsDone (Order scenario moments slacks places progress) old new (order_answer_named scenario answer)
+order_done scenario moments text slacks places progress from to old new (Ok status) does = (text, from, to, does)
+order_done scenario moments text slacks places progress from to old new (Err (order.Engine fault.CannotRead)) does = absurd does.3.2
+order_done scenario moments text slacks places progress from to old new (Err (order.Engine fault.TooLong)) does = does.1.1
+order_done scenario moments text slacks places progress from to old new (Err (order.Engine (fault.Scenario e))) does = inl (text, from, to, does)
+order_done scenario moments text slacks places progress from to old new (Err (order.Engine (fault.Trace f))) does = inl (text, from, to, does)
+order_done scenario moments text slacks places progress from to old new (Err (order.Engine (fault.Beyond n))) does = inl (text, from, to, does)
+order_done scenario moments text slacks places progress from to old new (Err (order.Engine fault.NoMemory)) does = inl (text, from, to, does)
+order_done scenario moments text slacks places progress from to old new (Err (order.Moments f)) does = (text, from, to, does)
+order_done scenario moments text slacks places progress from to old new (Err (order.NoBoard slot)) does = (text, from, to, does)
+order_done scenario moments text slacks places progress from to old new (Err order.TooManyOrders) does = (text, from, to, does)
 
 -- the same of what is written in a form that is that of the job
-pub order_formed : (scenario moments : Bor (List ℕ)) (text : List ℕ) (slacks : Slacks) (places : Bool) (form : Form) (from to old new : Known) (answer : OrderAnswer) → form ≡ form_of places
+pub order_formed : (scenario moments : Bor (List ℕ)) (text : List ℕ) (slacks : Slacks) (places progress : Bool) (form : Form) (from to old new : Known) (answer : OrderAnswer) → form ≡ form_of places
     → LentText text (ReadNothing (streams from to old new) × WroteNothing (streams from to old new)) (OrdersInput form slacks (streams from to old new)) answer
-    → IsDone (Order scenario moments slacks places) old new (order_answer_named scenario answer)
-order_formed scenario moments text slacks places form from to old new answer is does =
-    order_done scenario moments text slacks places from to old new answer
+    → IsDone (Order scenario moments slacks places progress) old new (order_answer_named scenario answer)
+order_formed scenario moments text slacks places progress form from to old new answer is does =
+    order_done scenario moments text slacks places progress from to old new answer
     (subst (λ (f : Form). LentText text (ReadNothing (streams from to old new) × WroteNothing (streams from to old new)) (OrdersInput f slacks (streams from to old new)) answer) is does)

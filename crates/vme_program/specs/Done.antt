@@ -119,7 +119,8 @@ Does (Checks scenario traces) old new = Alone (λ answer.
     × Lent text (Keeps old new) (ChecksFiles (texts_of traces.items) old new) answer)
 Does (Cycles scenario trace) old new = Alone (OnTrace ReportsInput old new)
 Does (Explain scenario trace edge) old new = Alone (OnTrace (ExplainsInput edge) old new)
-Does (Shrink scenario trace edge) old new = Alone (OnTrace (ShrinksInput edge) old new)
+Does (Shrink scenario trace edge progress) old new =
+    Alone (OnTrace (ShrinksInput edge) old new)
 Does (State scenario trace after) old new = Alone (OnTrace (StatesInput after) old new)
 Does (Show scenario trace from to color) old new =
     Alone (OnTrace (ShowsInput from to color) old new)
@@ -133,7 +134,7 @@ Does (OtherOrder scenario trace edge) old new = Reordered (OnRace edge old new)
 Does (Same scenario trace other) old new = Alone (λ answer.
     (text : List ℕ)
     × LentAsking text (Keeps old new) (ComparesFiles trace.now other.now old new) answer)
-Does (Order scenario moments slacks places) old new =
+Does (Order scenario moments slacks places progress) old new =
     Ordered (OnMoments (form_of places) slacks old new)
 Does (Drive scenario edges version) old new = Alone (λ answer.
     (text : List ℕ) × Lent text (Keeps old new) (Drives version edges old new) answer)
@@ -157,7 +158,7 @@ Stops job name f = ⊥
 abbrev pub Fails : Job → Known → Known → ProgramFault → Type 0
 Fails (Checks scenario traces) old new SomeTraces = HasFaulty (texts_of traces.items) old new
 Fails (Sums scenario traces) old new SomeTraces = LacksFiles (texts_of traces.items) old new
-Fails (Order scenario moments slacks places) old new (Ordering f) =
+Fails (Order scenario moments slacks places progress) old new (Ordering f) =
     OnMoments (form_of places) slacks old new (Err f)
 Fails (OtherOrder scenario trace edge) old new (NoRace asked) =
     (asked ≡ edge) × OnRace edge old new (Ok other.NoRace)

@@ -33,7 +33,7 @@ scenario_name (Check scenario trace) = scenario.now
 scenario_name (Checks scenario traces) = scenario.now
 scenario_name (Cycles scenario trace) = scenario.now
 scenario_name (Explain scenario trace edge) = scenario.now
-scenario_name (Shrink scenario trace edge) = scenario.now
+scenario_name (Shrink scenario trace edge progress) = scenario.now
 scenario_name (Rules entry) = []
 scenario_name (State scenario trace after) = scenario.now
 scenario_name (Show scenario trace from to color) = scenario.now
@@ -43,7 +43,7 @@ scenario_name (Races scenario trace) = scenario.now
 scenario_name (Walk scenario trace edge) = scenario.now
 scenario_name (OtherOrder scenario trace edge) = scenario.now
 scenario_name (Same scenario trace other) = scenario.now
-scenario_name (Order scenario moments slacks places) = scenario.now
+scenario_name (Order scenario moments slacks places progress) = scenario.now
 scenario_name (Drive scenario edges version) = scenario.now
 scenario_name (Draw scenario edges seed until version) = scenario.now
 scenario_name (Search scenario edges first last goal version progress) = scenario.now
@@ -59,7 +59,8 @@ IsFileOf (Checks scenario traces) name =
     (name ≡ scenario.now) ⊎ Contains (texts_of traces.items) name
 IsFileOf (Cycles scenario trace) name = (name ≡ scenario.now) ⊎ (name ≡ trace.now)
 IsFileOf (Explain scenario trace edge) name = (name ≡ scenario.now) ⊎ (name ≡ trace.now)
-IsFileOf (Shrink scenario trace edge) name = (name ≡ scenario.now) ⊎ (name ≡ trace.now)
+IsFileOf (Shrink scenario trace edge progress) name =
+    (name ≡ scenario.now) ⊎ (name ≡ trace.now)
 IsFileOf (Rules entry) name = ⊥
 IsFileOf (State scenario trace after) name = (name ≡ scenario.now) ⊎ (name ≡ trace.now)
 IsFileOf (Show scenario trace from to color) name = (name ≡ scenario.now) ⊎ (name ≡ trace.now)
@@ -71,7 +72,7 @@ IsFileOf (Walk scenario trace edge) name = (name ≡ scenario.now) ⊎ (name ≡
 IsFileOf (OtherOrder scenario trace edge) name = (name ≡ scenario.now) ⊎ (name ≡ trace.now)
 IsFileOf (Same scenario trace other) name =
     (name ≡ scenario.now) ⊎ (name ≡ trace.now) ⊎ (name ≡ other.now)
-IsFileOf (Order scenario moments slacks places) name =
+IsFileOf (Order scenario moments slacks places progress) name =
     (name ≡ scenario.now) ⊎ (name ≡ moments.now)
 IsFileOf (Drive scenario edges version) name = name ≡ scenario.now
 IsFileOf (Draw scenario edges seed until version) name = name ≡ scenario.now

@@ -203,15 +203,21 @@ fn run_shrink<'a, W: Write>(
     scenario: &'a str,
     trace: &'a str,
     edge: Option<u64>,
+    progress: bool,
     out: &mut W,
 ) -> Result<Status, ProgramFault<'a>>
-    ensures fault { IfErr result (IsFaultOf (Job.Shrink scenario.entry trace.entry edge)) }
-    ensures done { IsDone (Job.Shrink scenario.entry trace.entry edge)
+    ensures fault { IfErr result
+        (IsFaultOf (Job.Shrink scenario.entry trace.entry edge progress)) }
+    ensures done { IsDone (Job.Shrink scenario.entry trace.entry edge progress)
         (W.contents out.old) (W.contents out.new) result }
 {
     let text = read_scenario(rt, scenario)?;
     let mut input = open(rt, trace)?;
-    answer_of(scenario, shrink(rt.alloc(), &text, &mut input, edge, out))
+    let reporter = Reporter::new(rt, progress);
+    answer_of(
+        scenario,
+        shrink(rt.alloc(), &text, &mut input, edge, out, reporter),
+    )
 }
 
 /// Prints the rules, or explains a code.
@@ -536,19 +542,21 @@ fn run_order<'a, W: Write>(
     moments: &'a str,
     slacks: &Slacks,
     places: bool,
+    progress: bool,
     out: &mut W,
 ) -> Result<Status, ProgramFault<'a>>
     ensures fault { IfErr result
-        (IsFaultOf (Job.Order scenario.entry moments.entry slacks.now places)) }
-    ensures done { IsDone (Job.Order scenario.entry moments.entry slacks.now places)
+        (IsFaultOf (Job.Order scenario.entry moments.entry slacks.now places progress)) }
+    ensures done { IsDone (Job.Order scenario.entry moments.entry slacks.now places progress)
         (W.contents out.old) (W.contents out.new) result }
 {
     let text = read_scenario(rt, scenario)?;
     let mut input = open(rt, moments)?;
     let form = form_of(places);
+    let reporter = &mut Reporter::new(rt, progress);
     answer_of_order(
         scenario,
-        order(rt.alloc(), &text, &mut input, slacks, form, out),
+        order(rt.alloc(), &text, &mut input, slacks, form, out, reporter),
     )
 }
 
@@ -680,7 +688,8 @@ pub fn run<'a, R: Threads + Wait + Sync, W: Write>(
             scenario,
             trace,
             edge,
-        } => run_shrink(rt, scenario, trace, edge, out),
+            progress,
+        } => run_shrink(rt, scenario, trace, edge, progress, out),
         Job::Rules { entry } => run_rules(entry, out),
         Job::State {
             scenario,
@@ -717,7 +726,8 @@ pub fn run<'a, R: Threads + Wait + Sync, W: Write>(
             moments,
             slacks,
             places,
-        } => run_order(rt, scenario, moments, &slacks, places, out),
+            progress,
+        } => run_order(rt, scenario, moments, &slacks, places, progress, out),
         Job::Drive {
             scenario,
             edges,

@@ -4,12 +4,14 @@ ghost use Rattle.vme_program.specs.Paced.{IsPaced};
 
 use std::time::Instant;
 use vme_engines::Progress;
+use vme_order::OrderProgress;
+use vme_shrink::StoryProgress;
 
 /// For how many seconds nothing is printed after a line.
 const PAUSE: u64 = 1;
 
 /// Prints how far a search has come, at most once a second, or nothing.
-#[derive(Drop)]
+#[derive(Clone, Copy)]
 pub(crate) struct Reporter<'r> {
     rt: &'r HostRuntime,
     is_wanted: bool,
@@ -66,6 +68,25 @@ impl Progress for Reporter<'_> {
     fn drawn(&mut self, seed: u64, edges: u64) {
         if self.is_due() {
             let _ = eprintln!(self.rt; "trying seed {seed}, {edges} edges so far");
+        }
+    }
+}
+
+impl OrderProgress for Reporter<'_> {
+    fn lengthening(&mut self, length: usize, edges: usize, beginnings: usize) {
+        if self.is_due() {
+            let _ = eprintln!(
+                self.rt;
+                "trying length {length} of {edges}, beginnings {beginnings}"
+            );
+        }
+    }
+}
+
+impl StoryProgress for Reporter<'_> {
+    fn leaving_out(&mut self, size: usize, end: usize, edges: usize) {
+        if self.is_due() {
+            let _ = eprintln!(self.rt; "trying stretches of {size}, at edge {end} of {edges}");
         }
     }
 }

@@ -14,7 +14,7 @@ use std::alloc::Global;
 use std::io::Write;
 use vme_engines::Status;
 use vme_model::Edge;
-use vme_stories::{Front, story};
+use vme_stories::{Front, StoryProgress, story};
 use vme_trace::Fault;
 
 /// The status if the edge that is asked for is accepted, and if it is not.
@@ -106,11 +106,12 @@ pub(crate) fn seek(
 ///
 /// # Errors
 /// X6, and nothing is written then; X8.
-pub(crate) fn write_story<W: Write>(
+pub(crate) fn write_story<W: Write, P: StoryProgress>(
     front: Front,
     alloc: Global,
     edge: &Edge,
     out: &mut W,
+    progress: &mut P,
 ) -> Result<Status, Fault>
     requires { IsTrue (is_well_formed edge.now) }
     ensures { (p : PlanValue) (v : VersionValue) (before : List EdgeValue)
@@ -119,7 +120,7 @@ pub(crate) fn write_story<W: Write>(
 {
     let version = front.version();
     let status = status_if(front.verdict(*edge).is_ok());
-    let Ok(story) = story(alloc, front, *edge) else {
+    let Ok(story) = story(alloc, front, *edge, progress) else {
         return Err(Fault::Memory);
     };
     write_trace(version, &story, edge, out)?;

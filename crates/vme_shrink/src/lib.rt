@@ -6,3 +6,4 @@ mod shrinks;
 mod writing;
 
 pub use shrinks::shrink;
+pub use vme_stories::StoryProgress;

@@ -14,7 +14,7 @@ use std::io::{Read, Write};
 use vme_bus::Bus;
 use vme_engines::{EngineFault, Finding, Judge, Status, read, write_finding};
 use vme_model::Edge;
-use vme_stories::Front;
+use vme_stories::{Front, StoryProgress};
 use vme_trace::Fault;
 
 /// What a command answers that writes a trace.
@@ -26,11 +26,13 @@ pub(crate) enum Written {
     Beyond(u64),
 }
 
-/// What is asked for: an edge by its number, or the first that is refused; and the memory for it.
+/// What is asked for: an edge by its number, or the first that is refused; the memory for it, and
+/// who hears how far the search came.
 #[derive(Clone, Copy)]
-struct Asked {
+struct Asked<P> {
     alloc: Global,
     edge: Option<u64>,
+    progress: P,
 }
 
 /// The answer of the command.
@@ -47,14 +49,14 @@ fn status_of(written: Result<Written, EngineFault>) -> Result<Status, EngineFaul
 /// A trace under way, of which so many edges were judged. Once the edge that is asked for has come,
 /// there is no front.
 #[derive(Drop)]
-struct Shrinking {
-    asked: Asked,
+struct Shrinking<P> {
+    asked: Asked<P>,
     judged: u64,
     front: Option<Front>,
 }
 
-impl Judge for Shrinking {
-    type Task = Asked;
+impl<P: StoryProgress + Copy + Drop> Judge for Shrinking<P> {
+    type Task = Asked<P>;
 
     type Answer = Written;
 
@@ -70,7 +72,7 @@ impl Judge for Shrinking {
     ghost leaves = { λ asked p trace s answer.
         Shrinks asked.edge p trace s (written_answer answer) };
 
-    fn begin(task: &Asked, bus: Bus) -> Shrinking {
+    fn begin(task: &Asked<P>, bus: Bus) -> Shrinking<P> {
         let front = Front::new(task.alloc, bus);
         Shrinking {
             asked: *task,
@@ -79,7 +81,7 @@ impl Judge for Shrinking {
         }
     }
 
-    fn unbegun(_task: &Asked) {}
+    fn unbegun(_task: &Asked<P>) {}
 
     /// Writes the shorter trace once the edge that is asked for comes. At the end of a trace
     /// without one that is refused, it prints that all are legal.
@@ -95,7 +97,8 @@ impl Judge for Shrinking {
             return Err(Fault::Failed);
         };
         if let Some(edge) = seek(&mut front, self.asked.edge, self.judged, edges)? {
-            let status = write_story(front, self.asked.alloc, &edge, out)?;
+            let asked = &mut self.asked;
+            let status = write_story(front, asked.alloc, &edge, out, &mut asked.progress)?;
             return Ok(Some(Written::Text(status)));
         }
         self.front = Some(front);
@@ -119,24 +122,32 @@ impl Judge for Shrinking {
 /// The edges before it are a story of it and of what was kept of the edges before it
 /// (`vme_stories::story`), so it is answered as before. The status is `SomeRefused` if it is
 /// refused, and otherwise `Done`. Without a number, if no edge is refused, it writes `legal N`. No
-/// edge behind that one is judged. It makes at most 16,777,216 reads.
+/// edge behind that one is judged. It makes at most 16,777,216 reads. `progress` hears of each
+/// stretch of edges before it is left out to see whether the answer stays the same.
 ///
 /// # Errors
 /// F2, the faults of the scenario and F3, before anything is read or written. Those of the trace
 /// before the edge; X9 if a trace without fault has fewer edges, or the number is 0; X6 if there is
 /// no memory for two lists of the edges: then nothing is written. X8 if the output cannot be
 /// written.
-pub fn shrink<R: Read, W: Write>(
+pub fn shrink<R: Read, W: Write, P: StoryProgress + Copy + Drop>(
     alloc: Global,
     scenario: &[u8],
     trace: &mut R,
     edge: Option<u64>,
     out: &mut W,
+    progress: P,
 ) -> Result<Status, EngineFault>
     ensures { let s = streams (R.remaining trace.old) (R.remaining trace.new)
         (W.contents out.old) (W.contents out.new) in
         LentAsking scenario.now (ReadNothing s × WroteNothing s) (ShrinksInput edge s) result }
 {
-    let asked = Asked { alloc, edge };
-    status_of(read::<Shrinking, R, W>(alloc, scenario, &asked, trace, out))
+    let asked = Asked {
+        alloc,
+        edge,
+        progress,
+    };
+    status_of(read::<Shrinking<P>, R, W>(
+        alloc, scenario, &asked, trace, out,
+    ))
 }

@@ -7,8 +7,10 @@
 mod behind;
 mod fronts;
 pub mod laws;
+mod listening;
 mod replies;
 mod search;
 
 pub use fronts::Front;
+pub use listening::StoryProgress;
 pub use search::story;

@@ -8,6 +8,7 @@ ghost use Rattle.vme_stories.specs.Searching.{HasLeft, IsOn, IsSearch, next_size
 
 use crate::behind::{go_on, reply_behind};
 use crate::fronts::Front;
+use crate::listening::StoryProgress;
 use crate::replies::Reply;
 use std::alloc::{AllocError, Global};
 use std::mem;
@@ -105,7 +106,7 @@ impl Search {
 
     /// A pass: from the end on, stretch by stretch of this size, leaves each out without which the
     /// same is said. Says whether it left any out.
-    fn pass(&mut self, size: usize) -> Result<bool, AllocError>
+    fn pass<P: StoryProgress>(&mut self, size: usize, progress: &mut P) -> Result<bool, AllocError>
         requires search { IsSearch self.old }
         requires size { 0 < size }
         ensures left { IfOk result (λ has_left. HasLeft self.old self.new has_left) }
@@ -115,6 +116,7 @@ impl Search {
         let mut has_left = false;
         let mut end = self.list.len();
         'ends: while end > 0 {
+            progress.leaving_out(size, end, self.list.len());
             let begin = end.saturating_sub(size);
             let has_left_now = self.leave_out(begin, end)?;
             has_left |= has_left_now;
@@ -125,7 +127,7 @@ impl Search {
 
     /// A run: passes at each power of two, from the least that is not below the length of the list
     /// down to 1. Says whether it left anything out.
-    fn run(&mut self) -> Result<bool, AllocError>
+    fn run<P: StoryProgress>(&mut self, progress: &mut P) -> Result<bool, AllocError>
         requires search { IsSearch self.old }
         ensures left { IfOk result (λ has_left. HasLeft self.old self.new has_left) }
         ensures tight { IfOk result (λ has_left. (has_left ≡ false)
@@ -134,7 +136,7 @@ impl Search {
         let mut has_left = false;
         let mut size = self.list.len().next_power_of_two();
         'sizes: while size > 0 {
-            let has_left_now = self.pass(size)?;
+            let has_left_now = self.pass(size, progress)?;
             has_left |= has_left_now;
             size = next_size(size, has_left_now);
         }
@@ -142,7 +144,7 @@ impl Search {
     }
 
     /// Runs until one leaves nothing out.
-    fn shorten(&mut self) -> Result<(), AllocError>
+    fn shorten<P: StoryProgress>(&mut self, progress: &mut P) -> Result<(), AllocError>
         requires search { IsSearch self.old }
         ensures on { OnOk result (IsOn self.old self.new) }
         ensures part { OnOk result (IsPart self.new.list.items self.old.list.items) }
@@ -153,7 +155,7 @@ impl Search {
     {
         let mut has_left = true;
         'runs: while has_left {
-            has_left = self.run()?;
+            has_left = self.run(progress)?;
         }
         Ok(())
     }
@@ -164,11 +166,17 @@ impl Search {
 /// The edge has the same answer behind the story as behind the list: if it is refused, the verdict
 /// and the conditions that it fails, by their texts; if it is accepted, what it delivers and the
 /// situations that it brings about. Without any one edge of the story the answer is another. At E5
-/// the story is the whole list, since a shorter one has room.
+/// the story is the whole list, since a shorter one has room. `progress` hears of each stretch
+/// before it is left out to see whether the same is said.
 ///
 /// # Errors
 /// `AllocError` if there is no memory for a second list as long as this one.
-pub fn story(alloc: Global, front: Front, edge: Edge) -> Result<Vec<Code>, AllocError>
+pub fn story<P: StoryProgress>(
+    alloc: Global,
+    front: Front,
+    edge: Edge,
+    progress: &mut P,
+) -> Result<Vec<Code>, AllocError>
     ensures { let b = at_power_up front.version front.plan trace_limit in
         IfOk result (λ list. IsFound b (in_order front.history) edge list.items) }
 {
@@ -176,6 +184,6 @@ pub fn story(alloc: Global, front: Front, edge: Edge) -> Result<Vec<Code>, Alloc
     if search.reply.is_full() {
         return Ok(search.list);
     }
-    search.shorten()?;
+    search.shorten(progress)?;
     Ok(search.list)
 }

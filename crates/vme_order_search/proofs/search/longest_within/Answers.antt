@@ -3,7 +3,7 @@ use Rattle.vme_order_search.proofs.search.longest_within.Goals as goal
 use Rattle.vme_order_search.proofs.search.longest_within.Goals.{else-search-via-then-search+else-length-seen, else-search-via-else-search}
 
 pub returns-clause-found : goal.returns-clause-found
-returns-clause-found c t eq eqs leads =
+returns-clause-found g c t eq eqs leads =
     let n = c.in_ok-length.length in
     let ended = c.in_ok-length.ensures.ended t eq eqs (c.in_ok-search.ensures.layer t leads) in
     let e : length t.seen ≡ length c.args.seen.now = ap length eq in

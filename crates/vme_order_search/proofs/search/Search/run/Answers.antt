@@ -5,7 +5,7 @@ use Rattle.vme_order_search.proofs.Outcomes.{ended_here, ended_whole}
 use Rattle.vme_order_search.proofs.search.Search.run.Goals as goal
 
 pub returns-then-is_empty-clause-ended : goal.returns-then-is_empty-clause-ended
-returns-then-is_empty-clause-ended c t eq eqs h =
+returns-then-is_empty-clause-ended g c t eq eqs h =
     let layer = c.loop-length.invariant.3 t eq eqs h in
     let e : length t.seen ≡ length c.args.seen.now = ap length eq in
     ended_here t c.loop-length.length c.lengthen.new.self
@@ -15,7 +15,7 @@ returns-then-is_empty-clause-ended c t eq eqs h =
     (c.is_empty.ensures.none c.if-is_empty.true)
 
 pub loop-length-preserved : goal.loop-length-preserved
-loop-length-preserved c = (
+loop-length-preserved g c = (
   c.in_ok-drop_others.ensures.fit,
   c.in_ok-drop_others.ensures.some
       (subst (λ (l : Layer). 0 < length l.kept.items) (sym c.advance.ensures.kept)
@@ -31,7 +31,7 @@ loop-length-preserved c = (
 )
 
 pub returns-clause-ended : goal.returns-clause-ended
-returns-clause-ended c t eq eqs h =
+returns-clause-ended g c t eq eqs h =
     let e : length t.seen ≡ length c.args.seen.now = ap length eq in
     let n : c.loop-length.length ≡ length c.args.seen.now = omega arith in
     subst (λ k. HasEnded t k c.loop-length.self) n (ended_whole t c.loop-length.length c.loop-length.self

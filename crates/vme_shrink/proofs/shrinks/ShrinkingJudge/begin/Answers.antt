@@ -6,7 +6,7 @@ use Rattle.vme_shrink.proofs.WrittenStories.{unasked_first}
 use Rattle.vme_shrink.proofs.shrinks.ShrinkingJudge.begin.Goals as goal
 
 pub returns-clause-stands : goal.returns-clause-stands
-returns-clause-stands c = λ p v old is. (
+returns-clause-stands g c = λ p v old is. (
   refl,
   Keeps-refl old,
   unasked_first c.args.task.now.edge p v,

@@ -3,22 +3,22 @@ use Rattle.vme_stories.proofs.Searches.{IsPassing, Steps, pass_end, pass_first, 
 use Rattle.vme_stories.proofs.search.Search.pass.Goals as goal
 
 pub ends-init : goal.ends-init
-ends-init c =
+ends-init g c =
     subst (λ n. IsPassing c.args.self.now c.args.self.now c.args.size n false)
     (let all = c.args.self.now.list.ok.0 in omega (arith, all, c.len-end.ensures))
     (pass_first c.args.self.now c.args.size c.requires.search)
 
 pub leave_out-requires-clause-search : goal.leave_out-requires-clause-search
-leave_out-requires-clause-search c = c.ends.invariant.left.on.search
+leave_out-requires-clause-search g c = c.ends.invariant.left.on.search
 
 pub leave_out-requires-clause-within : goal.leave_out-requires-clause-within
-leave_out-requires-clause-within c = omega (arith, c.saturating_sub-begin.ensures)
+leave_out-requires-clause-within g c = omega (arith, c.saturating_sub-begin.ensures)
 
 pub leave_out-requires-clause-end : goal.leave_out-requires-clause-end
-leave_out-requires-clause-end c = c.ends.invariant.within
+leave_out-requires-clause-end g c = c.ends.invariant.within
 
 pub ends-preserved : goal.ends-preserved
-ends-preserved c =
+ends-preserved g c =
     let first = c.args.self.now in
     let now = c.ends.self in
     let next = c.leave_out.new.self in
@@ -35,10 +35,10 @@ ends-preserved c =
     (omega arith) c.ends.invariant (subst (λ n. Steps now next n c.ends.end left) begin step))
 
 pub returns-clause-left : goal.returns-clause-left
-returns-clause-left c = c.ends.invariant.left
+returns-clause-left g c = c.ends.invariant.left
 
 pub returns-clause-tight : goal.returns-clause-tight
-returns-clause-tight c =
+returns-clause-tight g c =
     let none : c.ends.end ≡ 0 = omega arith in
     pass_end c.args.self.now c.ends.self c.args.size c.ends.has_left
     (subst (λ n. IsPassing c.args.self.now c.ends.self c.args.size n c.ends.has_left) none

@@ -3,7 +3,7 @@ use Rattle.vme_stories.proofs.Searches.{IsRunning}
 use Rattle.vme_stories.proofs.search.Search.run.Given as goal
 
 abbrev pub invariant-sizes : goal.invariant-sizes
-invariant-sizes l = IsRunning l.fn.self l.self l.size l.has_left
+invariant-sizes g l = IsRunning l.fn.self l.self l.size l.has_left
 
 abbrev pub decreases-sizes : goal.decreases-sizes
-decreases-sizes l = l.size + length l.self.list.items
+decreases-sizes g l = l.size + length l.self.list.items

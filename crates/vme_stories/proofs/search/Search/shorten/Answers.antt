@@ -2,30 +2,30 @@ use Rattle.vme_stories.proofs.Searches.{shorten_first, shorten_smaller, shorten_
 use Rattle.vme_stories.proofs.search.Search.shorten.Goals as goal
 
 pub runs-init : goal.runs-init
-runs-init c = shorten_first c.args.self.now c.requires.search
+runs-init g c = shorten_first c.args.self.now c.requires.search
 
 pub run-requires : goal.run-requires
-run-requires c = record { search = c.runs.invariant.on.search }
+run-requires g c = record { search = c.runs.invariant.on.search }
 
 pub runs-preserved : goal.runs-preserved
-runs-preserved c =
+runs-preserved g c =
     shorten_step c.args.self.now c.runs.self c.run.new.self c.runs.has_left
     c.in_ok-has_left.has_left c.runs.invariant c.in_ok-has_left.ensures.left
     c.in_ok-has_left.ensures.tight
 
 pub runs-smaller : goal.runs-smaller
-runs-smaller c =
+runs-smaller g c =
     shorten_smaller c.runs.self c.run.new.self c.runs.has_left c.in_ok-has_left.has_left
     c.runs-test.true c.in_ok-has_left.ensures.left
 
 pub returns-clause-on : goal.returns-clause-on
-returns-clause-on c = c.runs.invariant.on
+returns-clause-on g c = c.runs.invariant.on
 
 pub returns-clause-part : goal.returns-clause-part
-returns-clause-part c = c.runs.invariant.part
+returns-clause-part g c = c.runs.invariant.part
 
 pub returns-clause-tight : goal.returns-clause-tight
-returns-clause-tight c = c.runs.invariant.tight c.runs-test.false
+returns-clause-tight g c = c.runs.invariant.tight c.runs-test.false
 
 pub returns-clause-still : goal.returns-clause-still
-returns-clause-still c = c.runs.invariant.still
+returns-clause-still g c = c.runs.invariant.still

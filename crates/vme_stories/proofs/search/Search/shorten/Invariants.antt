@@ -3,7 +3,7 @@ use Rattle.vme_stories.proofs.Searches.{IsShortening}
 use Rattle.vme_stories.proofs.search.Search.shorten.Given as goal
 
 abbrev pub invariant-runs : goal.invariant-runs
-invariant-runs l = IsShortening l.fn.self l.self l.has_left
+invariant-runs g l = IsShortening l.fn.self l.self l.has_left
 
 abbrev pub decreases-runs : goal.decreases-runs
-decreases-runs l = length l.self.list.items + (if l.has_left then 1 else 0)
+decreases-runs g l = length l.self.list.items + (if l.has_left then 1 else 0)
