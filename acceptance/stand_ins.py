@@ -104,7 +104,7 @@ ends=passed
 why() { if [[ -z ${STUB_BLIND:-} ]]; then echo "$1" >why; cat why; ends=illegal; fi; }
 case "$*" in
     *floor=100*) ends=idle ;;
-    *seed=20*) ends=overtaken ;;
+    *seed=20*late=2*) ends=overtaken ;;
     *takes-*) why 'fails own bgout is high (profile)' ;;
     *leaves-*) why 'fails own grant-in is high (profile)' ;;
     *passes-*) why 'fails own bbsy is high' ;;
