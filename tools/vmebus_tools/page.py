@@ -22,6 +22,8 @@ BOARD_COLUMNS = {
     "asked": "Requests", "tenures": "Tenures", "cycles": "Cycles", "longest-wait": "Longest wait", "longest-hold": "Longest hold",
     "answered": "Answers", "delivered": "Status bytes",
 }
+# How `explain` marks a condition that is not the standard's.
+PROFILE = " (profile)"
 NO_NETWORK = "default-src 'none'; style-src 'unsafe-inline'"
 
 
@@ -153,6 +155,8 @@ def section_of(cause: Cause, rule: Optional[Rule], scenario: str) -> Iterator[st
     yield f"<small>{count} trace{'' if count == 1 else 's'}</small></h3>"
     if rule:
         yield f'<p class="muted"><span class="edge">{escaped(rule.edge)}</span> &middot; {escaped(rule.sentence)}</p>'
+    if all(it.endswith(PROFILE) for it in cause.failing):
+        yield f'<p class="muted">Each condition that fails is marked{PROFILE}: it may be stricter than the standard.</p>'
     for place, (number, trace, outcome) in enumerate(cause.traces):
         yield from card(number, trace, outcome, scenario, place == 0)
 
