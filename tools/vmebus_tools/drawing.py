@@ -8,8 +8,8 @@ from typing import Dict, Iterator, List, Optional, Sequence, Tuple
 
 from . import reading
 from .reading import Band, Failing, Refusal, Row, Shown
-from .style import BAND, COLUMN, GAP, LABELS, LANE, LEAST_WIDTH, LINE, MARGIN, NAME, ROW, SLOPE, SMALL, SWING, TEXT, TINY, TITLE, VERDICTS, style
-from .svg import ADVANCE, Canvas, document, elided, safe, width
+from .style import BAND, COLUMN, GAP, LABELS, LANE, LEAST_WIDTH, LINE, MARGIN, NAME, ROW, SLOPE, SMALL, SWING, TEXT, TINY, TITLE, VERDICTS, WIDEST_COLUMN, style
+from .svg import ADVANCE, Canvas, document, elided, number, safe, width
 
 CYCLE = "cycle"
 LANES = (*reading.STATES[:-1], CYCLE, reading.STATES[-1])
@@ -101,7 +101,8 @@ class Drawing:
         self.lanes: List[str] = [name for name in wanted if name in LANES and (name != CYCLE or story.rows or self.cycles())]
         self.refused: Dict[int, Refusal] = {it.number - self.shown.first: it for it in story.refusals}
         self.left = MARGIN + LABELS
-        self.right = self.left + COLUMN * self.shown.edges
+        self.column = min(WIDEST_COLUMN, max(COLUMN, (LEAST_WIDTH - MARGIN - self.left) // self.shown.edges))
+        self.right = self.left + self.column * self.shown.edges
         self.wide = max(self.right + MARGIN, LEAST_WIDTH)
         self.top = MARGIN + 60
         self.middles = self.places_of_wires()
@@ -139,7 +140,7 @@ class Drawing:
 
     def x(self, column: int) -> float:
         """The middle of a column."""
-        return self.left + COLUMN * column + COLUMN / 2
+        return self.left + self.column * column + self.column / 2
 
     def x_of_edge(self, number: Optional[int]) -> float:
         """Where an edge is, which may be outside of the columns."""
@@ -155,11 +156,12 @@ class Drawing:
         self.draw_grid()
         self.draw_heading()
         self.draw_numbers()
+        heads = self.draw_grants()
         self.draw_wires()
         self.draw_lanes()
-        self.draw_grants()
+        self.canvas.lines += heads.lines
         self.draw_refused_marks()
-        high = self.draw_list(self.end + 14)
+        high = self.draw_list(self.draw_legend(self.end + 4))
         back = Canvas()
         back.rect(0, 0, self.wide, high, "paper")
         self.canvas.lines[:0] = back.lines
@@ -191,7 +193,7 @@ class Drawing:
 
     def draw_refused_columns(self) -> None:
         for column in self.refused:
-            self.canvas.rect(self.x(column) - COLUMN / 2, self.top - 18, self.x(column) + COLUMN / 2, self.end, "column")
+            self.canvas.rect(self.x(column) - self.column / 2, self.top - 18, self.x(column) + self.column / 2, self.end, "column")
 
     def draw_grid(self) -> None:
         """A line for each edge, and one between the wires of two drivers, and above the lanes."""
@@ -212,7 +214,7 @@ class Drawing:
     def draw_numbers(self) -> None:
         """The numbers of the edges, those of refused ones first, and of the others as many as there is room for."""
         half = width(str(self.shown.last), 10) / 2 + 1.5
-        step = next(it for it in (1, 2, 5, 10, 20) if 2 * half <= it * COLUMN or it == 20)
+        step = next(it for it in (1, 2, 5, 10, 20) if 2 * half <= it * self.column or it == 20)
         plain = [column for column in range(self.shown.edges) if (self.shown.first + column) % step == 0]
         taken: List[float] = []
         for column in [*self.refused, *plain]:
@@ -247,35 +249,32 @@ class Drawing:
 
     def draw_group(self, row: Row, level: str, middle: float) -> None:
         """An address group: a line in the middle while it is off, and a box with what it shows while it is on."""
-        on = "".join("on"[mark in "-/"] if mark != "x" else " " for mark in row.marks)
-        states = self.filled(on, "o" if level == "_" else "n")
         at = self.left
-        for first, end, _ in reading.spans(states.replace("n", ".")):
-            begin = self.left if first == 0 and row.marks[0] != "\\" else self.x(first)
-            stop = self.right if end == self.shown.edges else self.x(end)
+        for first, end, _ in reading.spans(self.states_of_group(row, level)):
+            opens = (first == 0 and row.marks[0] != "\\", end == self.shown.edges)
+            begin, stop = self.left if opens[0] else self.x(first), self.right if opens[1] else self.x(end)
             self.canvas.path(f"M{at:g} {middle:g}H{begin:g}", "wave")
-            self.draw_box(begin, stop, middle, end == self.shown.edges, self.shown.shown[first])
+            self.draw_box((begin, stop), opens, middle, self.shown.shown[first])
             at = stop
         if at < self.right:
             self.canvas.path(f"M{at:g} {middle:g}H{self.right:g}", "wave")
 
     @staticmethod
-    def filled(states: str, before: str) -> str:
-        """States in which a blank is what was before it."""
-        for state in states:
-            before += before[-1] if state == " " else state
-        return before[1:]
+    def states_of_group(row: Row, level: str) -> str:
+        """For each column `#` if the group is on behind it, else `.`; a refused edge leaves it as it was."""
+        states = "#" if level == "_" else "."
+        for mark in row.marks:
+            states += states[-1] if mark == "x" else "#" if mark in "\\_" else "."
+        return states[1:]
 
-    def draw_box(self, begin: float, stop: float, middle: float, is_open: bool, mark: str) -> None:
-        """The box of an address group, which opens at its first edge and closes at its last one, if these are in the picture."""
-        top, bottom = middle - SWING, middle + SWING
-        start = f"M{begin:g} {top:g}" if begin == self.left else f"M{begin:g} {middle:g}L{begin + SLOPE:g} {top:g}"
-        over = f"H{stop:g}" if is_open else f"H{stop - SLOPE:g}L{stop:g} {middle:g}L{stop - SLOPE:g} {bottom:g}"
-        back = f"M{begin:g} {bottom:g}H{stop:g}" if begin == self.left and is_open else ""
-        if not back:
-            over += f"M{stop:g} {bottom:g}" if is_open else ""
-            back = f"H{begin:g}" if begin == self.left else f"H{begin + SLOPE:g}L{begin:g} {middle:g}"
-        self.canvas.path(start + over + back, "wave")
+    def draw_box(self, edges: Tuple[float, float], opens: Tuple[bool, bool], middle: float, mark: str) -> None:
+        """The box of an address group. It is open at a side at which the group goes on outside of the picture."""
+        begin, stop = edges
+        lines = ""
+        for level in (middle - SWING, middle + SWING):
+            left = f"M{begin:g} {level:g}" if opens[0] else f"M{begin:g} {middle:g}L{begin + SLOPE:g} {level:g}"
+            lines += left + (f"H{stop:g}" if opens[1] else f"H{stop - SLOPE:g}L{stop:g} {middle:g}")
+        self.canvas.path(lines, "wave")
         text = "" if mark == "." else fitting(texts_of_value(mark), SMALL, stop - begin - 2 * SLOPE - 2)
         if text:
             self.canvas.text((begin + stop) / 2, middle + 4, text, "small ink middle")
@@ -297,8 +296,8 @@ class Drawing:
     def draw_holder(self, bottom: float) -> None:
         tenures = [it for it in self.story.bands if it.kind == "tenure"]
         for first, end, mark in reading.spans(self.shown.holder):
-            slot, number = reading.slot_of(mark), self.shown.first + first
-            of = [it for it in tenures if it.slot == slot and it.first <= number and (it.last is None or it.last > number)]
+            slot, edge = reading.slot_of(mark), self.shown.first + first
+            of = [it for it in tenures if it.slot == slot and it.first <= edge and (it.last is None or it.last > edge)]
             texts = texts_of_band(of[0]) if of else (f"slot {slot}", slot)
             self.draw_span("tenure", first, end, bottom, texts, of[0].line if of else f"slot {slot} has the bus")
 
@@ -365,21 +364,22 @@ class Drawing:
         rows = (row for row in self.shown.wires if row.marks[column] == "\\")
         return next((row for row in rows if row.wire in ("bg0", "bg1", "bg2", "bg3", "bgout", "bbsy")), None)
 
-    def draw_grants(self) -> None:
+    def draw_grants(self) -> Canvas:
+        """Draws the way of each grant behind the wires, and returns the heads of the arrows, which belong before them."""
+        heads = Canvas()
         for origin, column in self.passes():
             rows = [row.name for row in (self.falling(origin), self.falling(column)) if row and row.name in self.middles]
             if len(rows) == 2:
-                self.draw_arrow(self.x(origin), self.middles[rows[0]], self.x(column), self.middles[rows[1]])
+                self.draw_arrow(heads, self.x(origin), self.middles[rows[0]], self.x(column), self.middles[rows[1]])
+        return heads
 
-    def draw_arrow(self, x: float, y: float, to_x: float, to_y: float) -> None:
+    def draw_arrow(self, heads: Canvas, x: float, y: float, to_x: float, to_y: float) -> None:
         """An arrow from one slope to another, which leaves to the right and comes from the left."""
         begin, tip = x + 1, to_x - 1
         bend = max((tip - begin) * 0.55, 12)
-        curve = f"M{begin:g} {y:g}C{begin + bend:g} {y:g} {tip - 6 - bend:g} {to_y:g} {tip - 6:g} {to_y:g}"
-        self.canvas.path(curve, "halo")
-        self.canvas.path(curve, "arrow")
-        self.canvas.add("circle", cx=x, cy=y, r=2.4, class_="head")
-        self.canvas.path(f"M{tip:g} {to_y:g}l-8 -4v8z", "head")
+        self.canvas.path(f"M{begin:g} {y:g}C{number(begin + bend)} {y:g} {number(tip - 6 - bend)} {to_y:g} {tip - 6:g} {to_y:g}", "arrow")
+        heads.add("circle", cx=x, cy=y, r=2.6, class_="head")
+        heads.path(f"M{tip:g} {to_y:g}l-8 -4v8z", "head")
 
     def draw_refused_marks(self) -> None:
         """On the wire of each refused edge: the slope that it would have been, dashed, and a cross."""
@@ -388,10 +388,23 @@ class Drawing:
             x, middle, refusal = self.x(column), self.middles[row.name], self.refused[column]
             self.canvas.path(f"M{x:g} {middle - SWING:g}V{middle + SWING:g}", "refused tried")
             cross = f"M{x - 5:g} {middle - 5:g}l10 10m0 -10l-10 10"
-            self.canvas.path(cross, "halo")
             self.canvas.path(cross, "refused", tip=f"{refusal.number} {refusal.edge} {refusal.verdict}")
 
-    # The list of refused edges.
+    # What the marks mean, and the list of refused edges.
+
+    def draw_legend(self, at: float) -> float:
+        """Says below the picture what its marks mean, those that it has; returns the height at which that ends."""
+        says = {
+            "arrow: the way of a grant": any(self.passes()),
+            "tinted: the board that has the bus": any(it != "." for it in self.shown.holder),
+            "!: a status byte is delivered": "!" in self.shown.verdict,
+            "\u2715: refused, so nothing moves": bool(self.refused),
+        }
+        cells = int((self.wide - 2 * MARGIN) / (SMALL * ADVANCE))
+        for line in textwrap.wrap(" \u00b7 ".join(text for text, is_there in says.items() if is_there), cells):
+            at += LINE
+            self.canvas.text(MARGIN, at, line, "small muted")
+        return at + 12
 
     def draw_list(self, at: float) -> float:
         """Below the picture, each refused edge with the conditions that fail; returns the height of all."""
@@ -418,6 +431,6 @@ class Drawing:
         """The lines of the conditions that fail, each with its readings below it, and how they are drawn."""
         cells = int((self.wide - MARGIN - WHY_AT) / (TEXT * ADVANCE))
         for it in failing:
-            yield from ((line, "ink") for line in textwrap.wrap(f"not: {it.condition}", cells, subsequent_indent="     "))
+            yield from ((line, "ink") for line in textwrap.wrap(f"fails: {it.condition}", cells, subsequent_indent="    "))
             readings = textwrap.wrap("; ".join(it.readings), cells - 5, max_lines=READINGS, placeholder=" …")
             yield from ((line, "muted") for line in readings)

@@ -3,9 +3,8 @@
 from __future__ import annotations
 
 import itertools
-import os
 from dataclasses import dataclass
-from typing import Dict, List, Optional, Sequence, Tuple
+from typing import List, Optional, Sequence, Tuple
 
 from . import reading
 from .drawing import Story, names_of, picture
@@ -55,17 +54,23 @@ def draw(scenario: str, trace: str, first: Optional[int] = None, last: Optional[
     ran = ask(["show", "--from", str(begin), "--to", str(end)], scenario, lines)
     if not ran.out:
         return Drawn(None, 1, ran.fault or "show printed nothing")
-    shown = reading.shown(ran.out)
-    if rows is not None:
-        check_names(rows, names_of(shown))
-    lines = lines[: shown.last + 1]
-    told = ask(["cycles"], scenario, lines)
-    if told.fault:
-        raise Fault(told.fault)
-    refusals = tuple(it for it in reading.refusals(told.out) if shown.first <= it.number <= shown.last)
-    explained = {it.number: conditions(scenario, lines, it.number) for it in refusals[:EXPLAINED]}
-    story = Story(scenario, trace, shown, tuple(reading.bands(told.out)), refusals, explained, None if rows is None else tuple(rows))
-    return Drawn(picture(story), ran.status, ran.fault)
+    try:
+        shown = reading.shown(ran.out)
+        if rows is not None:
+            check_names(rows, names_of(shown))
+        return Drawn(picture(story_of(scenario, trace, shown, lines[: shown.last + 1], rows)), ran.status, ran.fault)
+    except (AssertionError, LookupError, ValueError) as fault:
+        raise Fault(f"the program printed something else than this tool reads: {fault!r}")
+
+
+def story_of(scenario: str, trace: str, shown: reading.Shown, lines: Sequence[bytes], rows: Optional[Sequence[str]]) -> Story:
+    """What the program says of the edges that it has shown, whose last line is that of the last one."""
+    said = answer(["cycles"], scenario, lines)
+    refusals = tuple(it for it in reading.refusals(said) if shown.first <= it.number <= shown.last)
+    explained = {}
+    for edge in (it.number for it in refusals[:EXPLAINED]):
+        explained[edge] = reading.failing(answer(["explain", "--edge", str(edge)], scenario, lines[: edge + 1]))
+    return Story(scenario, trace, shown, tuple(reading.bands(said)), refusals, explained, None if rows is None else tuple(rows))
 
 
 def check_names(names: Sequence[str], known: Sequence[str]) -> None:
@@ -75,12 +80,12 @@ def check_names(names: Sequence[str], known: Sequence[str]) -> None:
         raise Fault(f"no row is named '{lost[0]}' here; there are: {', '.join(known)}")
 
 
-def conditions(scenario: str, lines: Sequence[bytes], edge: int) -> List[reading.Failing]:
-    """The conditions that fail at a refused edge."""
-    told = ask(["explain", "--edge", str(edge)], scenario, lines[: edge + 1])
-    if told.fault:
-        raise Fault(told.fault)
-    return reading.failing(told.out)
+def answer(words: Sequence[str], scenario: str, lines: Sequence[bytes]) -> str:
+    """What the program prints of lines that it has read before."""
+    ran = ask(words, scenario, lines)
+    if ran.fault:
+        raise Fault(ran.fault)
+    return ran.out
 
 
 def ask(words: Sequence[str], scenario: str, lines: Sequence[bytes]) -> Ran:

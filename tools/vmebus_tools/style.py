@@ -4,9 +4,9 @@ from __future__ import annotations
 
 NAME = "vmebus-picture"
 MARGIN = 16
-# The column of the names, and that of an edge.
+# The column of the names, and that of an edge, which is wider if there are few.
 LABELS = 92
-COLUMN = 22
+COLUMN, WIDEST_COLUMN = 22, 34
 # A wire's row, and how far its levels are above and below the middle.
 ROW = 30
 SWING = 8
@@ -40,8 +40,7 @@ PAINT = {
     "paper": ("fill", "paper"), "grid": ("stroke", "grid"), "rule": ("stroke", "rule"), "ink": ("fill", "ink"),
     "muted": ("fill", "muted"), "dot": ("fill", "muted"), "red": ("fill", "red"), "green": ("fill", "green"),
     "wave": ("stroke", "ink"), "unknown": ("stroke", "muted"), "refused": ("stroke", "red"), "column": ("fill", "red-wash"),
-    "held": ("fill", "blue-tint"), "arrow": ("stroke", "amber"), "head": ("fill", "amber"), "halo": ("stroke", "paper"),
-    "box": ("fill", "paper"),
+    "held": ("fill", "blue-tint"), "arrow": ("stroke", "amber"), "head": ("fill", "amber"),
     "grant": ("fill", "amber-wash"), "tenure": ("fill", "blue-wash"),
     "access": ("fill", "green-wash"), "acknowledge": ("fill", "violet-wash"),
     "grant-line": ("stroke", "amber"), "tenure-line": ("stroke", "blue"),
@@ -60,8 +59,7 @@ FIXED = """text { font: 12px ui-monospace, SFMono-Regular, Menlo, Consolas, 'Dej
 .refused { fill: none; stroke-width: 2; stroke-linecap: round; }
 .tried { stroke-width: 1.4; stroke-dasharray: 2 3; }
 .held, .column { shape-rendering: crispEdges; }
-.arrow { fill: none; stroke-width: 1.6; }
-.halo { fill: none; stroke-width: 4; }
+.arrow { fill: none; stroke-width: 1.4; }
 .line { fill: none; stroke-width: 1.4; }"""
 
 
