@@ -19,7 +19,7 @@ from typing import Dict, Optional, Sequence, Tuple, Union
 
 from . import reading
 from .drawing import Story, picture
-from .pictures import ask, head_of
+from .pictures import answer, ask, head_of
 from .program import Fault, Ran, program, run
 
 # How many edges the picture of a refused edge has before it and behind it.
@@ -31,6 +31,7 @@ SCENARIO = "scenario"
 VERDICT = re.compile(r"(?:.*/(\d+): )?(legal|illegal) (\d+)(?: (.*))?")
 FAULT = re.compile(r"vmebus: (?:.*/(\d+): )?([A-Z]\d+ .*)")
 UNREADABLE = re.compile(r"(F\d+ .*?)\S*/(\d+)")
+CODED = re.compile(r"([A-Z]\d+) (.*)", re.DOTALL)
 RULE = re.compile(r"(\w+) (any|(?:c )?\w+[-+](?: v)?) (.*)")
 
 
@@ -43,7 +44,7 @@ class Legal:
 
 @dataclass(frozen=True)
 class Faulty:
-    """A trace cannot be judged; the fault begins with its code."""
+    """A trace cannot be judged; the fault begins with its code if the program has one for it."""
 
     fault: str
 
@@ -204,7 +205,10 @@ class Judging:
     def outcome(self, number: int, verdicts: Dict[int, Tuple[bool, int, str]], faults: Dict[int, str]) -> Union[Legal, Refused, Faulty]:
         is_legal, edge, verdict = verdicts.get(number, (True, 0, ""))
         if not is_legal:
-            return self.refused(number, edge, verdict, faults.get(number))
+            try:
+                return self.refused(number, edge, verdict, faults.get(number))
+            except Fault as fault:
+                return Faulty(str(fault))
         if number in faults:
             return Faulty(faults[number])
         if number not in verdicts:
@@ -237,9 +241,9 @@ class Judging:
         first, last = max(edge - BEFORE, 1), edge + BEHIND
         lines = head_of(self.links[number], last)
         shown = reading.shown(ask(["show", "--from", str(first), "--to", str(last)], self.of_scenario, lines).out)
-        told = ask(["cycles"], self.of_scenario, lines[: shown.last + 1]).out
-        refusals = tuple(it for it in reading.refusals(told) if shown.first <= it.number <= shown.last)
-        return picture(Story(self.scenario, self.names[number], shown, tuple(reading.bands(told)), refusals, {}))
+        said = answer(["cycles"], self.of_scenario, lines[: shown.last + 1])
+        refusals = tuple(it for it in reading.refusals(said) if shown.first <= it.number <= shown.last)
+        return picture(Story(self.scenario, self.names[number], shown, tuple(reading.bands(said)), refusals, {}))
 
 
 def limit(process: int) -> None:
@@ -249,6 +253,12 @@ def limit(process: int) -> None:
     except ProcessLookupError:
         # It has ended.
         return
+
+
+def parted(fault: str) -> Tuple[str, str]:
+    """The code of a fault, which is empty if the program has none for it, and its text."""
+    found = CODED.fullmatch(fault)
+    return (found[1], found[2]) if found else ("", fault)
 
 
 def rules_of(text: str) -> Tuple[Rule, ...]:

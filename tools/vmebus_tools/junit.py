@@ -9,7 +9,7 @@ from __future__ import annotations
 from datetime import datetime
 from typing import List, Optional, Sequence
 
-from .judging import SECONDS, Judged, Legal, Refused, Trace
+from .judging import SECONDS, Judged, Legal, Refused, Trace, parted
 from .svg import escaped
 
 CLASS = "vmebus"
@@ -49,7 +49,8 @@ def case(trace: Trace) -> List[str]:
         name = f"{trace.name}: edge {outcome.number}, {outcome.edge}"
         message = f"edge {outcome.number}, {outcome.edge}: {outcome.verdict}"
         return framed(name, "failure", outcome.verdict, f"{message}, not: {', '.join(outcome.failing)}", reasons(outcome))
-    return framed(trace.name, "error", outcome.fault.split()[0], outcome.fault, [outcome.fault])
+    code, _ = parted(outcome.fault)
+    return framed(trace.name, "error", code or "fault", outcome.fault, [outcome.fault])
 
 
 def framed(name: str, element: str, kind: str, message: str, lines: Sequence[str]) -> List[str]:

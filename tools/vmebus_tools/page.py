@@ -9,7 +9,7 @@ from datetime import datetime
 from typing import Dict, Iterator, List, Optional, Sequence, Tuple
 
 from . import style as picture_style
-from .judging import SECONDS, Judged, Refused, Rule, Trace
+from .judging import SECONDS, Judged, Refused, Rule, Trace, parted
 from .page_style import STYLE
 from .sums import Counts, Sums, sums
 from .svg import escaped
@@ -217,8 +217,9 @@ def faulty(judged: Judged) -> Iterator[str]:
     yield '<section id="faulty">\n<h2>With a fault <small>not in the sums below</small></h2>'
     yield '<div class="scroll"><table>\n<tr><th scope="col">Trace</th><th scope="col">Fault</th></tr>'
     for trace, fault in faults:
-        code, _, text = fault.partition(" ")
-        yield f'<tr><td>{name(trace)}</td><td><b class="amber">{escaped(code)}</b> {escaped(text)}</td></tr>'
+        code, text = parted(fault)
+        badge = f'<b class="amber">{escaped(code)}</b> ' if code else ""
+        yield f"<tr><td>{name(trace)}</td><td>{badge}{escaped(text)}</td></tr>"
     yield "</table></div>\n</section>"
 
 
