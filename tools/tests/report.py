@@ -314,7 +314,21 @@ class Statuses(Small):
             return before(words)
 
         with mock.patch.object(judging, "run", run):
-            self.assertEqual(self.judged("twice.vme").traces[0].outcome, Faulty("the file changed while it was read"))
+            judged = self.judged("twice.vme", "legal.vme")
+        self.assertEqual([it.outcome for it in judged.traces], [Faulty("the file changed while it was read"), Legal(6)])
+        self.assertIn('<error type="fault" message="the file changed while it was read">', junit(judged, MOMENT, 0))
+        self.assertIn("twice.vme the file changed while it was read", self.sound(page(judged, MOMENT)).text)
+
+    def test_other_program(self) -> None:
+        """If another program is called vmebus, that is a fault."""
+        other = self.room / "other"
+        for text, part in (("echo hello", "the program said: hello"), ("exit 7", "ended with status 7"), ("kill -9 $$", "status -9")):
+            with self.subTest(text):
+                other.write_text(f"#!/bin/sh\n{text}\n")
+                other.chmod(0o755)
+                status, out, said = self.call("scenario.toml", "legal.vme", env={**os.environ, "VMEBUS_PROGRAM": str(other)})
+                self.assertEqual((status, out, said.count("\n")), (1, "", 1))
+                self.assertIn(part, said)
 
 
 # What the schema has of an element: its children in their order, how often each may come, and its attributes.
@@ -420,7 +434,7 @@ class Parts(unittest.TestCase):
         return Refused(3, "1 br-", verdict, f"3 1 br- {verdict}\nfails {condition}\n", None, "", None)
 
     def judged(self, *outcomes: object) -> Judged:
-        return Judged("s", tuple(Trace(f"t{place}", it) for place, it in enumerate(outcomes)), (), (), "vmebus 2.0.0")
+        return Judged("s", tuple(Trace(f"t{place}", it) for place, it in enumerate(outcomes)), (), None, (), "vmebus 2.0.0")
 
     def test_causes(self) -> None:
         """The cause of most traces comes first, and of as many the one that came first."""

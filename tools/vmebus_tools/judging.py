@@ -14,13 +14,15 @@ import stat
 import subprocess
 import tempfile
 from concurrent.futures import ThreadPoolExecutor
+from contextlib import contextmanager
 from dataclasses import dataclass
-from typing import Dict, Optional, Sequence, Tuple, Union
+from typing import Dict, Iterator, Optional, Sequence, Tuple, Union
 
 from . import reading
 from .drawing import Story, picture
 from .pictures import answer, ask, head_of
 from .program import Fault, Ran, program, run
+from .sums import Sums, sums
 
 # How many edges the picture of a refused edge has before it and behind it.
 BEFORE, BEHIND = 24, 6
@@ -30,7 +32,7 @@ SECONDS = 10
 SCENARIO = "scenario"
 VERDICT = re.compile(r"(?:.*/(\d+): )?(legal|illegal) (\d+)(?: (.*))?")
 FAULT = re.compile(r"vmebus: (?:.*/(\d+): )?([A-Z]\d+ .*)")
-UNREADABLE = re.compile(r"(F\d+ .*?)\S*/(\d+)")
+UNREADABLE = re.compile(r"F1 cannot read .*/(\d+)")
 CODED = re.compile(r"([A-Z]\d+) (.*)", re.DOTALL)
 RULE = re.compile(r"(\w+) (any|(?:c )?\w+[-+](?: v)?) (.*)")
 
@@ -95,11 +97,12 @@ class Rule:
 
 @dataclass(frozen=True)
 class Judged:
-    """What the program said about a scenario and all traces. `summary` has no line if every trace has a fault."""
+    """What the program said about a scenario and all traces. There is no summary, and no sums of it, if every trace has a fault."""
 
     scenario: str
     traces: Tuple[Trace, ...]
     summary: Tuple[str, ...]
+    sums: Optional[Sums]
     rules: Tuple[Rule, ...]
     version: str
 
@@ -164,8 +167,10 @@ class Judging:
             outcomes = pool.map(lambda number: self.outcome(number, verdicts, faults), range(len(self.names)))
             traces = tuple(Trace(name, outcome) for name, outcome in zip(self.names, outcomes))
         summary = tuple(line for line in summed.result().out.splitlines() if not line.endswith(": illegal"))
+        with reading_program(summed.result()):
+            found = sums(summary) if summary else None
         rules, version = (it.result().out for it in texts)
-        return Judged(self.scenario, traces, summary, rules_of(rules), version.strip())
+        return Judged(self.scenario, traces, summary, found, rules_of(rules), version.strip())
 
     def faults(self, ran: Ran) -> Dict[int, str]:
         """The fault of each trace that has one; a fault of the scenario or of the call is raised."""
@@ -185,7 +190,7 @@ class Judging:
         number, text = found.groups()
         unreadable = UNREADABLE.fullmatch(text)
         if unreadable:
-            number, text = unreadable[2], unreadable[1] + self.names[int(unreadable[2])]
+            number, text = unreadable[1], f"F1 cannot read {self.names[int(unreadable[1])]}"
         if number is None and text[0] == "X" and text[:3] != "X8 ":
             number = "0"
         if number is None:
@@ -240,10 +245,21 @@ class Judging:
         """The picture of the edges around a refused one."""
         first, last = max(edge - BEFORE, 1), edge + BEHIND
         lines = head_of(self.links[number], last)
-        shown = reading.shown(ask(["show", "--from", str(first), "--to", str(last)], self.of_scenario, lines).out)
-        said = answer(["cycles"], self.of_scenario, lines[: shown.last + 1])
-        refusals = tuple(it for it in reading.refusals(said) if shown.first <= it.number <= shown.last)
-        return picture(Story(self.scenario, self.names[number], shown, tuple(reading.bands(said)), refusals, {}))
+        ran = ask(["show", "--from", str(first), "--to", str(last)], self.of_scenario, lines)
+        with reading_program(ran):
+            shown = reading.shown(ran.out)
+            said = answer(["cycles"], self.of_scenario, lines[: shown.last + 1])
+            refusals = tuple(it for it in reading.refusals(said) if shown.first <= it.number <= shown.last)
+            return picture(Story(self.scenario, self.names[number], shown, tuple(reading.bands(said)), refusals, {}))
+
+
+@contextmanager
+def reading_program(ran: Ran) -> Iterator[None]:
+    """Has a fault if the program printed something else than is read here, such as nothing."""
+    try:
+        yield
+    except (AssertionError, LookupError, ValueError) as fault:
+        raise Fault(ran.fault or f"the program printed something else than this tool reads: {fault!r}")
 
 
 def limit(process: int) -> None:

@@ -11,7 +11,7 @@ from typing import Dict, Iterator, List, Optional, Sequence, Tuple
 from . import style as picture_style
 from .judging import SECONDS, Judged, Refused, Rule, Trace, parted
 from .page_style import STYLE
-from .sums import Counts, Sums, sums
+from .sums import Counts, Sums
 from .svg import escaped
 
 # How many edges of a short history are shown.
@@ -101,8 +101,8 @@ def header(judged: Judged, title: str, moment: datetime) -> Iterator[str]:
     yield tile(len(judged.refused()), "refused", "refused")
     yield tile(len(judged.faults()), "faulty", "with a fault")
     yield tile(len(judged.legal()), "legal", "legal")
-    if judged.summary:
-        yield tile(sums(judged.summary).edges.accepted or 0, "exercised", "edges accepted")
+    if judged.sums:
+        yield tile(judged.sums.edges.accepted or 0, "exercised", "edges accepted")
     yield "</ul>\n</header>"
 
 
@@ -225,9 +225,9 @@ def faulty(judged: Judged) -> Iterator[str]:
 
 def exercised(judged: Judged) -> Iterator[str]:
     """What all traces exercised, and above it what they never did."""
-    if not judged.summary:
+    found = judged.sums
+    if not found:
         return
-    found = sums(judged.summary)
     yield '<section id="exercised">\n<h2>What the traces exercised</h2>'
     yield '<div class="never-list">'
     yield f"<p><b>Rules by which no edge was accepted:</b> {listed(found.never_accepted)}</p>"
