@@ -84,10 +84,11 @@ class Relay:
             os.dup2(os.open(os.devnull, os.O_WRONLY), sys.stdout.fileno())
 
     def total(self) -> Optional[tuple[int, int]]:
-        """The total that was kept, if any. A last line that is none is handed on."""
-        found = TOTAL.fullmatch(self.kept)
-        if self.kept and not found:
-            self.say(self.kept.rstrip(b"\n") + b"\n")
+        """Takes the total that was kept, if any. A last line that is none is handed on."""
+        last, self.kept = self.kept, b""
+        found = TOTAL.fullmatch(last)
+        if last and not found:
+            self.say(last.rstrip(b"\n") + b"\n")
         return (int(found[1]), int(found[2])) if found else None
 
 
@@ -112,10 +113,14 @@ def guard(name: str, work: Callable[[], int]) -> int:
     caught, relay = Caught(), Relay(reader)
     signal.pthread_sigmask(signal.SIG_UNBLOCK, SIGNALS)
     status = follow(child, caught, relay)
-    end_session(child, status)
     relay.hear_rest()
+    total = relay.total()
+    end_session(child, status)
+    # What is ended there may have last words, such as a shell's report of what was ended; they take no total's place.
+    relay.hear_rest()
+    relay.total()
     shutil.rmtree(room, ignore_errors=True)
-    return closed(name, relay, *judged(relay.total(), status, caught, relay))
+    return closed(name, relay, *judged(total, status, caught, relay))
 
 
 def enter(name: str, room: str, writer: int) -> None:

@@ -59,6 +59,16 @@ class Programs(unittest.TestCase):
             with self.assertRaisesRegex(Fault, "cannot build"):
                 program.run(["check"])
 
+    def test_what_try_keeps(self) -> None:
+        """What ./try has built is called without it, if it is one file; otherwise ./try is called each time."""
+        built = self.script("try", 'mkdir -p "$0-kept" && touch "$0-kept/vmebus-1"')
+        kept = f"{built}-kept"
+        with mock.patch.multiple(program, UNPROVED=str(built), KEPT=kept, find=lambda: str(built)):
+            self.assertEqual(program.program(), f"{kept}/vmebus-1")
+            Path(f"{kept}/vmebus-2").touch()
+            program.program.cache_clear()
+            self.assertEqual(program.program(), str(built))
+
     def test_arguments_and_input(self) -> None:
         ran = self.ran('printf "%s;" "$@"; cat; echo said >&2; exit 2', "a b", "", "<&\n", input=b"vme 1\n\xff")
         self.assertEqual(ran, Ran(2, "a b;;<&\n;vme 1\n\udcff", "said\n"))

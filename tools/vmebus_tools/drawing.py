@@ -13,8 +13,6 @@ from .svg import ADVANCE, Canvas, document, elided, number, safe, width
 
 CYCLE = "cycle"
 LANES = (*reading.STATES[:-1], CYCLE, reading.STATES[-1])
-# Where the texts of a refused edge begin in the list below the picture: its number ends before the first.
-EDGE_AT, VERDICT_AT, WHY_AT = 74, 190, 256
 # How many lines of readings a condition has at most.
 READINGS = 3
 
@@ -213,7 +211,7 @@ class Drawing:
 
     def draw_numbers(self) -> None:
         """The numbers of the edges, those of refused ones first, and of the others as many as there is room for."""
-        half = width(str(self.shown.last), 10) / 2 + 1.5
+        half = width(str(self.shown.last), SMALL) / 2 + 2.5
         step = next(it for it in (1, 2, 5, 10, 20) if 2 * half <= it * self.column or it == 20)
         plain = [column for column in range(self.shown.edges) if (self.shown.first + column) % step == 0]
         taken: List[float] = []
@@ -394,11 +392,12 @@ class Drawing:
 
     def draw_legend(self, at: float) -> float:
         """Says below the picture what its marks mean, those that it has; returns the height at which that ends."""
+        drawn = "".join(self.canvas.lines)
         says = {
-            "arrow: the way of a grant": any(self.passes()),
-            "tinted: the board that has the bus": any(it != "." for it in self.shown.holder),
-            "!: a status byte is delivered": "!" in self.shown.verdict,
-            "\u2715: refused, so nothing moves": bool(self.refused),
+            "arrow: grant": 'class="arrow"' in drawn,
+            "tinted: has the bus": 'class="held"' in drawn,
+            "!: status byte": ">!<" in drawn,
+            "\u2715: refused, nothing moves": bool(self.refused),
         }
         cells = int((self.wide - 2 * MARGIN) / (SMALL * ADVANCE))
         for line in textwrap.wrap(" \u00b7 ".join(text for text, is_there in says.items() if is_there), cells):
@@ -415,22 +414,30 @@ class Drawing:
             at = self.draw_refusal(refusal, at)
         return at + MARGIN - 4
 
+    def stops(self) -> Tuple[float, float, float, float]:
+        """Where the number of a refused edge ends, and where its words, its verdict and its conditions begin."""
+        words = max(width(it.edge, TEXT) for it in self.refused.values())
+        verdicts = max(width(it.verdict, TEXT) for it in self.refused.values())
+        end = MARGIN + 22 + width(str(max(self.refused) + self.shown.first), TEXT)
+        return end, end + 14, end + 32 + words, end + 50 + words + verdicts
+
     def draw_refusal(self, refusal: Refusal, at: float) -> float:
         """A refused edge with the conditions that fail, from a height on; returns the height at which it ends."""
-        line = at + LINE - 3
+        line, (number_end, edge_at, verdict_at, why_at) = at + LINE - 3, self.stops()
         self.canvas.text(MARGIN, line, "\u2715", "red strong")
-        self.canvas.text(EDGE_AT - 12, line, str(refusal.number), "red strong end")
-        self.canvas.text(EDGE_AT, line, refusal.edge, "ink")
-        self.canvas.text(VERDICT_AT, line, refusal.verdict, "red strong")
-        for text, class_ in self.lines_of(self.story.explained.get(refusal.number, [])):
-            self.canvas.text(WHY_AT, line, text, class_)
+        self.canvas.text(number_end, line, str(refusal.number), "red strong end")
+        self.canvas.text(edge_at, line, refusal.edge, "ink")
+        self.canvas.text(verdict_at, line, refusal.verdict, "red strong")
+        for text, class_ in self.lines_of(self.story.explained.get(refusal.number, []), self.wide - MARGIN - why_at):
+            self.canvas.text(why_at, line, text, class_)
             line += LINE
         return max(line - LINE, at + LINE - 3) + 6
 
-    def lines_of(self, failing: Sequence[Failing]) -> Iterator[Tuple[str, str]]:
+    @staticmethod
+    def lines_of(failing: Sequence[Failing], room: float) -> Iterator[Tuple[str, str]]:
         """The lines of the conditions that fail, each with its readings below it, and how they are drawn."""
-        cells = int((self.wide - MARGIN - WHY_AT) / (TEXT * ADVANCE))
+        cells = int(room / (TEXT * ADVANCE))
         for it in failing:
             yield from ((line, "ink") for line in textwrap.wrap(f"fails: {it.condition}", cells, subsequent_indent="    "))
-            readings = textwrap.wrap("; ".join(it.readings), cells - 5, max_lines=READINGS, placeholder=" …")
+            readings = textwrap.wrap("; ".join(it.readings), cells, max_lines=READINGS, placeholder=" \u2026")
             yield from ((line, "muted") for line in readings)

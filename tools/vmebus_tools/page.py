@@ -14,10 +14,9 @@ from .page_style import STYLE
 from .sums import Counts, Sums
 from .svg import escaped
 
-# How many edges of a short history are shown.
+# How many edges of a short history are shown, and how many of its lines one below another.
 MOST_EDGES = 120
-# How many traces a row of the table of causes names.
-MOST_NAMES = 3
+MOST_IN_COLUMN = 10
 BOARD_COLUMNS = {
     "asked": "Requests", "tenures": "Tenures", "cycles": "Cycles", "longest-wait": "Longest wait", "longest-hold": "Longest hold",
     "answered": "Answers", "delivered": "Status bytes",
@@ -129,36 +128,35 @@ def refused(judged: Judged, causes: Sequence[Cause]) -> Iterator[str]:
     yield '<section id="refused">\n<h2>Refused</h2>'
     if sum(len(cause.traces) for cause in causes) > 1:
         yield from table_of_causes(causes)
-    for cause in causes:
-        yield from section_of(cause, rules.get(cause.rule), judged.scenario)
+    for place, cause in enumerate(causes, 1):
+        yield from section_of(cause, place, rules.get(cause.rule), judged.scenario)
     yield "</section>"
 
 
 def table_of_causes(causes: Sequence[Cause]) -> Iterator[str]:
     """How many traces each cause has, and the first of them."""
     yield '<div class="scroll"><table>\n<tr><th scope="col" class="number">Traces</th><th scope="col">Rule</th>'
-    yield '<th scope="col">What fails</th><th scope="col">Traces with it</th></tr>'
-    for cause in causes:
-        links = [f'<a href="#trace-{number}">{name(trace.name)}</a>' for number, trace, _ in cause.traces[:MOST_NAMES]]
-        more = len(cause.traces) - len(links)
-        named = "<br>".join([*links, *([f'<span class="muted">and {more} more</span>'] if more else [])])
-        yield f'<tr><td class="number">{len(cause.traces)}</td><td><span class="badge">{escaped(cause.rule)}</span></td>'
-        yield f"<td>{'<br>'.join(map(escaped, cause.failing))}</td><td>{named}</td></tr>"
+    yield '<th scope="col">What fails</th><th scope="col">First in</th></tr>'
+    for place, cause in enumerate(causes, 1):
+        number, trace, _ = cause.traces[0]
+        yield f'<tr><td class="number">{len(cause.traces)}</td><td><a class="badge" href="#cause-{place}">{escaped(cause.rule)}</a></td>'
+        yield f"<td>{'<br>'.join(map(escaped, cause.failing))}</td>"
+        yield f'<td><a href="#trace-{number}">{name(trace.name)}</a></td></tr>'
     yield "</table></div>"
 
 
-def section_of(cause: Cause, rule: Optional[Rule], scenario: str) -> Iterator[str]:
+def section_of(cause: Cause, place: int, rule: Optional[Rule], scenario: str) -> Iterator[str]:
     """All traces of a cause, of which the first is open."""
     count = len(cause.traces)
     failing = escaped(" and ".join(f"“{it}”" for it in cause.failing))
-    yield f'<h3><span class="badge">{escaped(cause.verdict)}</span> {failing} {"fails" if len(cause.failing) == 1 else "fail"}'
+    yield f'<h3 id="cause-{place}"><span class="badge">{escaped(cause.verdict)}</span> {failing} {"fails" if len(cause.failing) == 1 else "fail"}'
     yield f"<small>{count} trace{'' if count == 1 else 's'}</small></h3>"
     if rule:
         yield f'<p class="muted"><span class="edge">{escaped(rule.edge)}</span> &middot; {escaped(rule.sentence)}</p>'
     if all(it.endswith(PROFILE) for it in cause.failing):
         yield f'<p class="muted">Each condition that fails is marked{PROFILE}: it may be stricter than the standard.</p>'
-    for place, (number, trace, outcome) in enumerate(cause.traces):
-        yield from card(number, trace, outcome, scenario, place == 0)
+    for number, trace, outcome in cause.traces:
+        yield from card(number, trace, outcome, scenario, outcome is cause.traces[0][2])
 
 
 def card(number: int, trace: Trace, outcome: Refused, scenario: str, is_open: bool) -> Iterator[str]:
@@ -197,7 +195,8 @@ def history(lines: Optional[Sequence[str]]) -> str:
     left_out = len(lines) - 1 - MOST_EDGES
     shown = [*lines[:1], f".. {left_out} edges", *lines[-MOST_EDGES:]] if left_out > 0 else [*lines]
     *before, last = map(escaped, shown)
-    return f'<pre class="history">{"".join(f"{line}{chr(10)}" for line in before)}<span class="fails">{last}</span></pre>'
+    class_ = "history long" if len(shown) > MOST_IN_COLUMN else "history"
+    return f'<pre class="{class_}">{"".join(f"{line}{chr(10)}" for line in before)}<span class="fails">{last}</span></pre>'
 
 
 def command(word: str, scenario: str, trace: str) -> str:

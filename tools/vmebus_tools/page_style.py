@@ -18,6 +18,7 @@ body { margin: 0 auto; padding: 2rem 1.25rem 3rem; max-width: 68rem; background:
   font: 15px/1.5 system-ui, -apple-system, "Segoe UI", Roboto, "Liberation Sans", Arial, sans-serif; }
 a { color: var(--link); text-decoration: none; }
 a:hover { text-decoration: underline; }
+a.badge { text-decoration: none; }
 h1 { margin: 0 0 .35rem; font-size: 1.65rem; line-height: 1.25; }
 h2 { margin: 2.5rem 0 .75rem; padding-top: .9rem; border-top: 1px solid var(--line); font-size: 1.25rem; }
 h3 { margin: 1.9rem 0 .1rem; font-size: 1.05rem; }
@@ -39,7 +40,7 @@ code, pre, .name, .edge { font-family: ui-monospace, SFMono-Regular, Menlo, Cons
 table { border-collapse: collapse; width: 100%; }
 th, td { padding: .3rem .9rem .3rem 0; border-bottom: 1px solid var(--line); text-align: left; vertical-align: top; }
 th { font-size: .8rem; color: var(--muted); font-weight: 600; }
-td.number, th.number { text-align: right; font-variant-numeric: tabular-nums; white-space: nowrap; }
+td.number, th.number { width: 1%; text-align: right; font-variant-numeric: tabular-nums; white-space: nowrap; }
 tr.never td { color: var(--muted); background: var(--wash); }
 .red { color: var(--red); }
 .amber { color: var(--amber); }
@@ -59,7 +60,7 @@ summary .edge { color: var(--muted); }
 pre { margin: 0; white-space: pre-wrap; overflow-wrap: anywhere; line-height: 1.45; }
 pre .fails { color: var(--red); font-weight: 600; }
 pre .reading { color: var(--muted); }
-pre.history { columns: 9rem; column-gap: 1.25rem; column-rule: 1px solid var(--line); }
+pre.long { columns: 9rem; column-gap: 1.25rem; column-rule: 1px solid var(--line); }
 pre.command { margin-top: .3rem; padding: .35rem .6rem; background: var(--wash); border-radius: 5px; }
 .never-list { margin: 0 0 1rem; padding: .6rem .9rem; background: var(--amber-wash); border-left: 4px solid var(--amber); border-radius: 6px; }
 ul.files { columns: 20rem; column-gap: 2rem; margin: 0; padding: 0; list-style: none; }

@@ -8,6 +8,7 @@ the program without proofs at its first call.
 from __future__ import annotations
 
 import functools
+import glob
 import os
 import shutil
 import subprocess
@@ -17,6 +18,8 @@ from typing import Optional, Sequence
 TOP = os.path.dirname(os.path.dirname(os.path.dirname(os.path.realpath(__file__))))
 BUILT = os.path.join(TOP, "crates", "vmebus", "out", "vmebus")
 UNPROVED = os.path.join(TOP, "try")
+# The folder in which ./try keeps the one program that it has built last.
+KEPT = os.path.join(TOP, "crates", "vmebus", "out", "try")
 # How the lines of ./try begin, which are not the program's.
 OF_TRY = "try: "
 
@@ -57,13 +60,15 @@ def run(arguments: Sequence[str], input: Optional[bytes] = None) -> Ran:
 
 @functools.lru_cache(maxsize=None)
 def program() -> str:
-    """The path of the program. If it is ./try, which is not built yet, it is built now, and says so."""
+    """The path of the program. In place of ./try it is what that has built, now or before, so that calls begin at once."""
     found = find()
-    if found == UNPROVED:
-        build = subprocess.run([found, "--version"], stdin=subprocess.DEVNULL, stdout=subprocess.DEVNULL)
-        if build.returncode:
-            raise Fault("./try cannot build the program, and there is no other")
-    return found
+    if found != UNPROVED:
+        return found
+    build = subprocess.run([found, "--version"], stdin=subprocess.DEVNULL, stdout=subprocess.DEVNULL)
+    if build.returncode:
+        raise Fault("./try cannot build the program, and there is no other")
+    kept = glob.glob(os.path.join(glob.escape(KEPT), "vmebus-*"))
+    return kept[0] if len(kept) == 1 else found
 
 
 def find() -> str:
