@@ -121,6 +121,13 @@ class Pictures(Small):
         self.assertEqual(found[at - 4 : at + 2], ["\u2715", "6", "3 bgout-", "E3 G11", "fails: own br is high", "3 br low since 5"])
         self.assertIn("fails: own bgout is high (profile)", found)
 
+    def test_many_refused(self) -> None:
+        """The first 20 refused edges have their conditions, and the others are named."""
+        found = texts(self.drawn("vme 1\n1 br-\n" + "1 br-\n" * 30, status=2))
+        self.assertEqual(found.count("fails: 1 br is high"), 20)
+        rest = " ".join(it for it in found if it.startswith("also") or it[:2] in ("22", "23", "24", "25", "26", "27", "28", "29", "30", "31") and "E2" in it)
+        self.assertEqual(rest, "also\u00a0refused: " + ", ".join(f"{number}\u00a01\u00a0br-\u00a0E2" for number in range(22, 32)))
+
     def test_no_row(self) -> None:
         """An edge that no wire of the backplane has is refused in its column, and in no row."""
         found = texts(self.drawn("vme 1\n1 br-\n9 br-\n", status=2))
@@ -208,6 +215,7 @@ class Faults(Small):
             ((*files, "--from", "3", "--to", "2"), "edges 3 to 2: a picture has 1 to 200 edges"),
             ((*files, "--from", "1", "--to", "201"), "a picture has 1 to 200 edges"),
             ((*files, "--rows", "1 br,,1 bbsy"), "a name of a row is empty"),
+            ((*files, "--rows", "1 br,holder,1 br"), "the row '1 br' is named twice"),
             ((*files, "--rows", "2 br"), "no row is named '2 br' here; there are: c bg3, 1 br, 1 bbsy, grant at,"),
         ):
             self.fails(words, part)

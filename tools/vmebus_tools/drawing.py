@@ -8,7 +8,7 @@ from typing import Dict, Iterator, List, Optional, Sequence, Tuple
 
 from . import reading
 from .reading import Band, Failing, Refusal, Row, Shown
-from .style import BAND, COLUMN, GAP, LABELS, LANE, LEAST_WIDTH, LINE, MARGIN, NAME, ROW, SLOPE, SMALL, SWING, TEXT, TINY, TITLE, VERDICTS, WIDEST_COLUMN, style
+from .style import BAND, COLUMN, GAP, LABELS, LANE, LEAST_WIDTH, LINE, MARGIN, NAME, ROW, SLOPE, SMALL, SWING, TEXT, TITLE, VERDICTS, WIDEST_COLUMN, style
 from .svg import ADVANCE, Canvas, document, elided, number, safe, width
 
 CYCLE = "cycle"
@@ -289,7 +289,7 @@ class Drawing:
     def draw_grant_at(self, bottom: float) -> None:
         for first, end, mark in reading.spans(self.shown.grant_at):
             slot = reading.slot_of(mark)
-            self.draw_span("grant_at", first, end, bottom, (f"slot {slot}", slot), f"a grant waits at slot {slot}")
+            self.draw_span("grant", first, end, bottom, (f"slot {slot}", slot), f"a grant waits at slot {slot}")
 
     def draw_holder(self, bottom: float) -> None:
         tenures = [it for it in self.story.bands if it.kind == "tenure"]
@@ -327,11 +327,11 @@ class Drawing:
         """A band of a row of states: from the edge behind which the state begins to the one behind which it is over."""
         is_new = first > 0 or self.begins_at_first(class_)
         edges = (self.x(first) if is_new else self.left, self.x(end) if end < self.shown.edges else self.right)
-        self.draw_band(class_.replace("_at", ""), edges, (not is_new, end == self.shown.edges), bottom, texts, tip)
+        self.draw_band(class_, edges, (not is_new, end == self.shown.edges), bottom, texts, tip)
 
     def begins_at_first(self, class_: str) -> bool:
         """Whether the first edge of the picture is the one that makes a state of this class."""
-        wires = {"grant_at": ("bg0", "bg1", "bg2", "bg3", "bgout"), "tenure": ("bbsy",)}.get(class_, ("addr",))
+        wires = {"grant": ("bg0", "bg1", "bg2", "bg3", "bgout"), "tenure": ("bbsy",)}.get(class_, ("addr",))
         return any(row.marks[0] == "\\" and row.wire in wires for row in self.shown.wires)
 
     def draw_band(self, class_: str, edges: Tuple[float, float], opens: Tuple[bool, bool], bottom: float, texts: Sequence[str], tip: str) -> None:
@@ -410,9 +410,18 @@ class Drawing:
         if self.refused:
             self.canvas.path(f"M{MARGIN} {at:g}H{self.wide - MARGIN:g}", "rule")
             at += 8
-        for refusal in self.refused.values():
+        for refusal in (it for it in self.refused.values() if it.number in self.story.explained):
             at = self.draw_refusal(refusal, at)
-        return at + MARGIN - 4
+        return self.draw_rest(at) + MARGIN - 4
+
+    def draw_rest(self, at: float) -> float:
+        """The refused edges whose conditions were not asked for, one behind another; returns the height at which they end."""
+        rest = [f"{it.number}\u00a0{it.edge}\u00a0{it.verdict}".replace(" ", "\u00a0") for it in self.refused.values() if it.number not in self.story.explained]
+        cells = int((self.wide - 2 * MARGIN) / (TEXT * ADVANCE))
+        for line in textwrap.wrap(f"also\u00a0refused: {', '.join(rest)}" if rest else "", cells, break_on_hyphens=False):
+            at += LINE
+            self.canvas.text(MARGIN, at - 3, line, "red")
+        return at + (6 if rest else 0)
 
     def stops(self) -> Tuple[float, float, float, float]:
         """Where the number of a refused edge ends, and where its words, its verdict and its conditions begin."""

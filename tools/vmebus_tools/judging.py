@@ -227,7 +227,7 @@ class Judging:
         if ran.status != 2 or not (head.startswith(f"{edge} ") and head.endswith(f" {verdict}")):
             return Faulty("the file changed while it was read")
         words = head[len(str(edge)) + 1 : -len(verdict) - 1]
-        return Refused(edge, words, verdict, ran.out, self.history(number), self.picture(number, edge), fault)
+        return Refused(edge, words, verdict, ran.out, self.history(number), self.picture(number, edge, ran.out), fault)
 
     def history(self, number: int) -> Optional[Tuple[str, ...]]:
         """The lines of the short trace that ends with the refused edge, if it is found soon."""
@@ -241,8 +241,8 @@ class Judging:
             out, _ = call.communicate()
         return tuple(out.decode("utf-8", "replace").splitlines()) if call.returncode == 2 else None
 
-    def picture(self, number: int, edge: int) -> str:
-        """The picture of the edges around a refused one."""
+    def picture(self, number: int, edge: int, explained: str) -> str:
+        """The picture of the edges around a refused one, which has its reasons."""
         first, last = max(edge - BEFORE, 1), edge + BEHIND
         lines = head_of(self.links[number], last)
         ran = ask(["show", "--from", str(first), "--to", str(last)], self.of_scenario, lines)
@@ -250,7 +250,7 @@ class Judging:
             shown = reading.shown(ran.out)
             said = answer(["cycles"], self.of_scenario, lines[: shown.last + 1])
             refusals = tuple(it for it in reading.refusals(said) if shown.first <= it.number <= shown.last)
-            return picture(Story(self.scenario, self.names[number], shown, tuple(reading.bands(said)), refusals, {}))
+            return picture(Story(self.scenario, self.names[number], shown, tuple(reading.bands(said)), refusals, {edge: reading.failing(explained)}))
 
 
 @contextmanager

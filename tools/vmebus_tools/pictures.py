@@ -74,7 +74,10 @@ def story_of(scenario: str, trace: str, shown: reading.Shown, lines: Sequence[by
 
 
 def check_names(names: Sequence[str], known: Sequence[str]) -> None:
-    """Refuses a name that no row has."""
+    """Refuses a name that no row has, and one that is there twice."""
+    twice = [name for name in names if names.count(name) > 1]
+    if twice:
+        raise Fault(f"the row '{twice[0]}' is named twice")
     lost = [name for name in names if name not in known]
     if lost:
         raise Fault(f"no row is named '{lost[0]}' here; there are: {', '.join(known)}")

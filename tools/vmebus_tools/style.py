@@ -46,21 +46,21 @@ PAINT = {
     "grant-line": ("stroke", "amber"), "tenure-line": ("stroke", "blue"),
     "access-line": ("stroke", "green"), "acknowledge-line": ("stroke", "violet"),
 }
-FIXED = """text { font: 12px ui-monospace, SFMono-Regular, Menlo, Consolas, 'DejaVu Sans Mono', monospace; }
-.title { font-size: 14px; font-weight: bold; }
-.small { font-size: 11px; }
-.tiny { font-size: 9px; }
-.strong { font-weight: bold; }
-.middle { text-anchor: middle; }
-.end { text-anchor: end; }
-.grid, .rule { stroke-width: 1; shape-rendering: crispEdges; }
-.wave { fill: none; stroke-width: 1.6; stroke-linejoin: round; }
-.unknown { fill: none; stroke-width: 1; stroke-dasharray: 2 3; }
-.refused { fill: none; stroke-width: 2; stroke-linecap: round; }
-.tried { stroke-width: 1.4; stroke-dasharray: 2 3; }
-.held, .column { shape-rendering: crispEdges; }
-.arrow { fill: none; stroke-width: 1.4; }
-.line { fill: none; stroke-width: 1.4; }"""
+FIXED = f"""text {{ font: {TEXT}px ui-monospace, SFMono-Regular, Menlo, Consolas, 'DejaVu Sans Mono', monospace; }}
+.title {{ font-size: {TITLE}px; font-weight: bold; }}
+.small {{ font-size: {SMALL}px; }}
+.tiny {{ font-size: {TINY}px; }}
+.strong {{ font-weight: bold; }}
+.middle {{ text-anchor: middle; }}
+.end {{ text-anchor: end; }}
+.grid, .rule {{ stroke-width: 1; shape-rendering: crispEdges; }}
+.wave {{ fill: none; stroke-width: 1.6; stroke-linejoin: round; }}
+.unknown {{ fill: none; stroke-width: 1; stroke-dasharray: 2 3; }}
+.refused {{ fill: none; stroke-width: 2; stroke-linecap: round; }}
+.tried {{ stroke-width: 1.4; stroke-dasharray: 2 3; }}
+.held, .column {{ shape-rendering: crispEdges; }}
+.arrow {{ fill: none; stroke-width: 1.4; }}
+.line {{ fill: none; stroke-width: 1.4; }}"""
 
 
 def painted(colors: dict) -> str:
@@ -69,6 +69,6 @@ def painted(colors: dict) -> str:
 
 
 def style() -> str:
-    """The style sheet: what does not depend on the colors, the light ones, and the dark ones for those who prefer them."""
+    """The style sheet: what does not depend on the colors, the light ones, and on a screen the dark ones for those who prefer them."""
     fixed = "".join(f".{NAME} {line.replace(', .', f', .{NAME} .')}\n" for line in FIXED.splitlines())
-    return f"{fixed}{painted(LIGHT)}@media (prefers-color-scheme: dark) {{\n{painted(DARK)}}}\n"
+    return f"{fixed}{painted(LIGHT)}@media screen and (prefers-color-scheme: dark) {{\n{painted(DARK)}}}\n"
