@@ -143,7 +143,7 @@ class Build(Case):
         self.tell("a kept crate", news[0] == "1 of 4 crates; vme_kept: was proved before", said)
         self.tell("a proved crate", any(re.fullmatch(r"2 of 4 crates; vme_slow: 22 functions proved in \d+ s", line) for line in news), said)
         self.tell("the example", f"all proved; one bus tenure, as the program judges it:\n{EXAMPLE}the program is one file" in said, said)
-        self.tell("how to install", "install -D -m 755 crates/vmebus/out/vmebus ~/.local/bin/vmebus" in lines[-1], said)
+        self.tell("how to install", "to install it: ./install --only program ~/.local" in lines[-1], said)
         self.told_in(root)
 
     def told_in(self, root: str) -> None:

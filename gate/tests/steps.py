@@ -13,7 +13,7 @@ from pathlib import Path
 
 TOP = Path(__file__).resolve().parents[2]
 TOTAL = re.compile(r"\n(\d+) passed, (\d+) failed\n\Z")
-STEPS = 26
+STEPS = 27
 PASSES = "1 passed, 0 failed"
 
 # What stands in for each tool. It notes its call, and the tool that $TOOL names does what $DOES says. It begins no process.
@@ -48,18 +48,18 @@ int fork(void) {
 
 # What a step does, how many pass and fail then in all, and what has to be said of it.
 ENDS = {
-    "echo '3 passed, 0 failed'": (28, 0, ""),
-    "echo '3 passed, 2 failed'; exit 1": (28, 2, "check: words: 3 passed, 2 failed; its log ends with\n    3 passed, 2 failed\n"),
-    "echo '3 passed, 0 failed'; exit 1": (25, 1, "'3 passed, 0 failed', and its command, tee and sed ended with 1 0 0"),
-    "echo '0 passed, 0 failed'": (25, 1, "check: words: it has no total: 0 passed, 0 failed;"),
-    "echo '3 passed, 0 failed'; echo more": (25, 1, "check: words: it has no total: more;"),
-    "exit 0": (25, 1, "check: words: it has no total: ;"),
-    "kill -KILL $$": (25, 1, "', and its command, tee and sed ended with 137 0 0"),
-    "echo 'it: as it should be'; echo 'FAILED it'; echo 'by a written proof alone: it: why'; echo '0 passed, 1 failed'": (25, 1, "log ends with\n    FAILED it\n    0 passed, 1 failed\n"),
+    "echo '3 passed, 0 failed'": (STEPS + 2, 0, ""),
+    "echo '3 passed, 2 failed'; exit 1": (STEPS + 2, 2, "check: words: 3 passed, 2 failed; its log ends with\n    3 passed, 2 failed\n"),
+    "echo '3 passed, 0 failed'; exit 1": (STEPS - 1, 1, "'3 passed, 0 failed', and its command, tee and sed ended with 1 0 0"),
+    "echo '0 passed, 0 failed'": (STEPS - 1, 1, "check: words: it has no total: 0 passed, 0 failed;"),
+    "echo '3 passed, 0 failed'; echo more": (STEPS - 1, 1, "check: words: it has no total: more;"),
+    "exit 0": (STEPS - 1, 1, "check: words: it has no total: ;"),
+    "kill -KILL $$": (STEPS - 1, 1, "', and its command, tee and sed ended with 137 0 0"),
+    "echo 'it: as it should be'; echo 'FAILED it'; echo 'by a written proof alone: it: why'; echo '0 passed, 1 failed'": (STEPS - 1, 1, "log ends with\n    FAILED it\n    0 passed, 1 failed\n"),
     # A total that is written by another than the step.
     f"echo {PASSES} >$TMPDIR/live.total": (0, 1, "check: the total of live cannot be written into "),
-    f"echo {PASSES} >>$TMPDIR/acceptance.total; echo {PASSES}": (25, 1, f"check: acceptance: it has no total: {PASSES} {PASSES};"),
-    f"rm $TMPDIR/acceptance.total; echo {PASSES}": (25, 1, "check: acceptance: it has no total: it did not begin;"),
+    f"echo {PASSES} >>$TMPDIR/acceptance.total; echo {PASSES}": (STEPS - 1, 1, f"check: acceptance: it has no total: {PASSES} {PASSES};"),
+    f"rm $TMPDIR/acceptance.total; echo {PASSES}": (STEPS - 1, 1, "check: acceptance: it has no total: it did not begin;"),
 }
 
 # Steps in which their lane is killed, before and behind their total, and how many steps the lane has.
