@@ -72,7 +72,7 @@ footer { margin-top: 2.5rem; padding-top: .9rem; border-top: 1px solid var(--lin
   details.trace::details-content { content-visibility: visible; block-size: auto; }
   .picture { overflow: visible; break-inside: avoid; }
   .picture svg { max-width: 100%; height: auto; }
-  h2, h3, summary { break-after: avoid; }
+  h2, h3, summary, p.muted { break-after: avoid; }
   tr, .columns { break-inside: avoid; }
 }
 """
