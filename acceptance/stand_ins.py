@@ -76,7 +76,20 @@ case "$*" in
     *numbers.c) (echo '#!/bin/bash'; echo "cat <<'END'"; lines numbers.c; echo END) >in_c; chmod +x in_c ;;
     *numbers.sv) mkdir -p obj_dir; lines numbers.sv >obj_dir/said; printf '#!/bin/bash\ncat obj_dir/said\n' >obj_dir/Vnumbers
         chmod +x obj_dir/Vnumbers ;;
+    *player_bench.sv) mkdir obj_dir; cp "${STUB_BENCHES%/*/*}/plays" obj_dir/Vplayer_bench ;;
 esac
+"""
+PLAYS = """#!/usr/bin/env python3
+import importlib.machinery, importlib.util, os, sys
+loader = importlib.machinery.SourceFileLoader("benches", os.environ["STUB_BENCHES"])
+benches = importlib.util.module_from_spec(importlib.util.spec_from_loader("benches", loader))
+loader.exec_module(benches)
+lie = os.environ.get("STUB_NOT", "")
+if len(sys.argv) > 1:
+    sys.exit(lie or benches.PLAYER_REFUSES[int(sys.argv[1].partition("=")[2]) - 1])
+print(lie + benches.PLAYER_PRINTS + "- bench.sv:83: Verilog $finish")
+for name, text in benches.PLAYER_WRITES.items():
+    open(name, "w").write(lie + text)
 """
 MAKE_BENCHES = """#!/bin/bash
 if [[ "$*" == *" run "* ]]; then
@@ -91,7 +104,7 @@ ends=passed
 why() { if [[ -z ${STUB_BLIND:-} ]]; then echo "$1" >why; cat why; ends=illegal; fi; }
 case "$*" in
     *floor=100*) ends=idle ;;
-    *seed=20*) ends=overtaken ;;
+    *seed=20*late=2*) ends=overtaken ;;
     *takes-*) why 'fails own bgout is high (profile)' ;;
     *leaves-*) why 'fails own grant-in is high (profile)' ;;
     *passes-*) why 'fails own bbsy is high' ;;

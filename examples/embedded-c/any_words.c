@@ -4,9 +4,12 @@
  *
  * The numbers are drawn from a fixed seed. The records are those of a bus on which the trace is
  * made, with few or all of their words drawn. All that a call is handed ends right before a page that
- * nothing may touch, or begins right behind one. In each round each function is called at least once, but
- * those that read a scenario or take a size, which are called now and then. It ends with status 1 if a refusal changed a bus or delivered something, if words that
- * are no bus show more than 0, or if an answer is none that the header names. */
+ * nothing may touch, or begins right behind one. In each round each function is called at least once. The scenarios are
+ * mostly the first bytes of the given one, and now and then all of it.
+ *
+ * It ends with status 1 if a refusal changed a bus or delivered something, if words that are no bus show more than 0, if an
+ * answer is none that the header names, if a verdict or a build is not the one that the header says, if the line of a fault
+ * has another name than the fault, or if a bus or draws of another size are taken. */
 #define _DEFAULT_SOURCE
 #include <stdbool.h>
 #include <stdio.h>
@@ -20,8 +23,8 @@
 /* What is handed over, each in pages of its own. */
 enum part { BUS, DRAWS, NUMBERS, TEXT, MASKS, DELIVERED, SCENARIO, PARTS };
 
-/* What no text has. */
-enum { FILL = 1 };
+/* What no text has; the most bytes by which a size is too large; and of a scenario, mostly. */
+enum { FILL = 1, MORE = 64, FEW = 48 };
 
 /* Pages between two that nothing may touch. */
 struct pages {
@@ -175,7 +178,35 @@ static bool is_text(const char *room, size_t bytes, uint32_t length) {
     return true;
 }
 
-/* Asks for texts in rooms of a drawn length: why an edge is refused, how it is spelled, and a verdict. Returns how long the first is. */
+/* The verdict on an edge as docs/COMMANDS.md has it, empty for a number that is no answer to an edge. */
+static void write_verdict(char *text, size_t room, uint32_t answer, uint32_t delivered) {
+    uint32_t error = VMEBUS_ERROR(answer), rule = VMEBUS_RULE(answer), last = error == 3 ? 26 : error == 4 ? 4 : 0;
+    *text = 0;
+    if (answer == VMEBUS_ACCEPTED && delivered == 0)
+        snprintf(text, room, "ok");
+    else if (answer == VMEBUS_ACCEPTED)
+        snprintf(text, room, "ok irq %u to %u from %u status %u", VMEBUS_LEVEL(delivered), VMEBUS_HANDLER(delivered),
+                 VMEBUS_ANSWERED_BY(delivered), VMEBUS_STATUS(delivered));
+    else if (answer == 0x100 || answer == 0x200)
+        snprintf(text, room, "E%u", error);
+    else if (1 <= rule && rule <= last)
+        snprintf(text, room, "E%u %c%u", error, error == 3 ? 'G' : 'S', rule);
+}
+
+/* Asks for the verdict on a drawn answer in a room of a drawn length. */
+static void ask_verdict(unsigned long round) {
+    char wanted[VMEBUS_MOST_VERDICT + 1];
+    uint32_t answer = draw() % 4 ? draw_near(0x600) : VMEBUS_ACCEPTED, delivered = draw() % 4 ? draw() : 0;
+    size_t bytes = draw() % 64;
+    char *room = filled_text(bytes);
+    uint32_t length = vmebus_verdict(answer, delivered, room, bytes);
+    write_verdict(wanted, sizeof wanted, answer, delivered);
+    if (length != strlen(wanted)) fail("a verdict of another length", round);
+    if (!is_text(room, bytes, length)) fail("a verdict that is not in its room", round);
+    if (length <= bytes && memcmp(room, wanted, length) != 0) fail("another verdict", round);
+}
+
+/* Asks for texts in rooms of a drawn length: why an edge is refused, and how it is spelled. Returns how long the first is. */
 static uint32_t ask_texts(const struct vmebus *bus, unsigned long round) {
     uint32_t driver = draw_near(24), wire = draw_near(18), fall = draw_near(2), value = draw_near(56);
     size_t bytes = draw() % 64;
@@ -185,9 +216,6 @@ static uint32_t ask_texts(const struct vmebus *bus, unsigned long round) {
     room = filled_text(bytes);
     uint32_t line = vmebus_spell(driver, wire, fall, value, room, bytes);
     if (line > VMEBUS_MOST_LINE || !is_text(room, bytes, line)) fail("a line that is not in its room", round);
-    room = filled_text(bytes);
-    uint32_t verdict = vmebus_verdict(draw_near(0x600), draw_near(2), room, bytes);
-    if (verdict > VMEBUS_MOST_VERDICT || !is_text(room, bytes, verdict)) fail("a verdict that is not in its room", round);
     return why;
 }
 
@@ -196,7 +224,9 @@ static void draw_edge(const struct vmebus *bus, bool is_bus, unsigned long round
     struct vmebus_draws *draws = at_edge(DRAWS, sizeof *draws), before;
     size_t count = draw() % 25;
     uint32_t *masks = at_edge(MASKS, count * sizeof *masks), *edge = filled(1, 1);
-    if (vmebus_seed(draws, draw()) != 0) fail("a seed that makes no draws", round);
+    uint64_t seed = (uint64_t)draw() << 32 | draw();
+    if (vmebus_seed(draws, seed) != 0 || vmebus_seed(&before, seed) != 0) fail("a seed that makes no draws", round);
+    if (memcmp(draws, &before, sizeof before) != 0) fail("a seed that makes two kinds of draws", round);
     for (uint32_t left = draw() % 40; left > 0; left--) draws->words[draw() % VMEBUS_DRAWS_WORDS] = draw();
     if (draw() % 8 == 0) memset(draws, 0, sizeof *draws);
     for (size_t at = 0; at < count; at++) masks[at] = draw();
@@ -215,6 +245,7 @@ static void look_around(const struct vmebus *bus, bool is_bus, unsigned long rou
     seen |= vmebus_low(bus, draw_near(24), draw_near(18)) | vmebus_has(bus, draw_near(24), draw_near(18));
     seen |= ask_lists(bus, round) | ask_texts(bus, round);
     ask_build(round);
+    ask_verdict(round);
     draw_edge(bus, is_bus, round);
     if (memcmp(bus, &before, sizeof *bus) != 0) fail("a look that changed a bus", round);
     if (!is_bus && seen != 0) fail("words that are no bus and show more than 0", round);
@@ -254,45 +285,83 @@ static void step_round(struct vmebus *bus, const char *trace, size_t trace_bytes
     look_around(bus, answer != VMEBUS_NO_BUS, round);
 }
 
-/* Bytes of a scenario, some of which are drawn. */
-static const char *drawn_scenario(const char *scenario, size_t *bytes) {
-    if (draw() % 4 == 0) *bytes = draw() % *bytes;
+/* The first bytes of a scenario, few of them unless all are asked for, some of which are drawn. */
+static const char *drawn_scenario(const char *scenario, size_t *bytes, bool is_long) {
+    size_t most = is_long || *bytes < FEW ? *bytes : FEW;
+    *bytes = !is_long || draw() % 4 == 0 ? draw() % (most + 1) : most;
     char *text = at_edge(SCENARIO, *bytes);
     memcpy(text, scenario, *bytes);
     for (uint32_t left = draw() % 4; left > 0 && *bytes > 0; left--) text[draw() % *bytes] = (char)draw();
     return text;
 }
 
-/* Opens a bus by such a scenario, and asks for the line of its fault in a room of a drawn length. */
-static void open_round(struct vmebus *bus, const char *scenario, size_t bytes, unsigned long round) {
-    struct vmebus before = *bus;
-    uint32_t version = draw_near(4);
-    const char *text = drawn_scenario(scenario, &bytes);
-    uint32_t fault = vmebus_open(bus, version, text, bytes);
-    if (fault > VMEBUS_FAULT_X1) fail("a fault that is none", round);
-    if (fault != 0 && memcmp(bus, &before, sizeof *bus) != 0) fail("a fault that changed a bus", round);
+/* Whether a line begins with the name of a fault and a blank, as far as it is there. */
+static bool has_name(const char *line, size_t bytes, uint32_t fault) {
+    static const char *const names[VMEBUS_FAULT_SIZE] = {
+        [VMEBUS_FAULT_P1] = "P1 ", [VMEBUS_FAULT_P2] = "P2 ", [VMEBUS_FAULT_P3] = "P3 ", [VMEBUS_FAULT_P4] = "P4 ",
+        [VMEBUS_FAULT_P5] = "P5 ", [VMEBUS_FAULT_P6] = "P6 ", [VMEBUS_FAULT_P7] = "P7 ", [VMEBUS_FAULT_P8] = "P8 ",
+        [VMEBUS_FAULT_P9] = "P9 ", [VMEBUS_FAULT_Q1] = "Q1 ", [VMEBUS_FAULT_Q2] = "Q2 ", [VMEBUS_FAULT_Q3] = "Q3 ",
+        [VMEBUS_FAULT_Q4] = "Q4 ", [VMEBUS_FAULT_Q6] = "Q6 ", [VMEBUS_FAULT_F2] = "F2 ", [VMEBUS_FAULT_X1] = "X1 "};
+    return fault < VMEBUS_FAULT_SIZE && names[fault] && (bytes < 3 || memcmp(line, names[fault], 3) == 0);
+}
+
+/* Asks for the line of the fault that a version and a scenario have, in a room of a drawn length. */
+static void ask_fault(uint32_t version, const char *text, size_t bytes, uint32_t fault, unsigned long round) {
+    static const char no_text[] = "Q3 missing key slots";
     size_t room = draw() % 80;
     char *line = filled_text(room);
     uint32_t length = vmebus_fault_text(version, text, bytes, line, room);
     if ((length != 0) != (fault != 0)) fail("a fault without a line, or a line without a fault", round);
     if (length > VMEBUS_MOST_FAULT || !is_text(line, room, length)) fail("the line of a fault that is not in its room", round);
+    if (fault != 0 && !has_name(line, length <= room ? length : 0, fault)) fail("the line of another fault", round);
+    if (bytes > 0 || fault == VMEBUS_FAULT_X1) return;
+    if (length != strlen(no_text)) fail("another fault of no text", round);
+    if (length <= room && memcmp(line, no_text, length) != 0) fail("another line of no text", round);
 }
 
-/* Hands over a bus and draws of another size, which have to stay untouched: there is no more of them. */
-static void other_sizes(const char *scenario, size_t scenario_bytes, unsigned long round) {
-    size_t bytes = draw() % sizeof(struct vmebus);
-    char *room = at_edge(BUS, bytes);
-    memset(room, FILL, bytes);
-    if (vmebus_open_sized((struct vmebus *)room, bytes, 1, scenario, scenario_bytes) != VMEBUS_FAULT_SIZE)
-        fail("a bus of another size that is opened", round);
-    for (size_t at = 0; at < bytes; at++)
-        if (room[at] != FILL) fail("a bus of another size that is written", round);
-    bytes = draw() % sizeof(struct vmebus_draws);
-    room = at_edge(DRAWS, bytes);
-    memset(room, FILL, bytes);
-    if (vmebus_seed_sized((struct vmebus_draws *)room, bytes, draw()) != VMEBUS_FAULT_SIZE) fail("draws of another size", round);
-    for (size_t at = 0; at < bytes; at++)
-        if (room[at] != FILL) fail("draws of another size that are written", round);
+/* Opens a bus by a drawn scenario, in a version that may be none. */
+static void open_round(struct vmebus *bus, const char *scenario, size_t bytes, unsigned long round) {
+    struct vmebus before = *bus;
+    uint32_t version = draw_near(4);
+    const char *text = drawn_scenario(scenario, &bytes, round % 512 == 0);
+    uint32_t fault = vmebus_open(bus, version, text, bytes);
+    if (fault != 0 && memcmp(bus, &before, sizeof *bus) != 0) fail("a fault that changed a bus", round);
+    if ((fault == VMEBUS_FAULT_X1) != (version != 1 && version != 2)) fail("a version that is taken for another", round);
+    ask_fault(version, text, bytes, fault, round);
+}
+
+/* Opens a bus by the scenario as it is, over words that are another's. */
+static void open_again(const struct vmebus *opened, const char *scenario, size_t bytes, unsigned long round) {
+    struct vmebus *bus = at_edge(BUS, sizeof *bus);
+    char *text = at_edge(SCENARIO, bytes);
+    memcpy(text, scenario, bytes);
+    if (vmebus_open(bus, 1, text, bytes) != 0 || memcmp(bus, opened, sizeof *bus) != 0) fail("another bus of the scenario", round);
+    ask_fault(1, text, bytes, 0, round);
+}
+
+/* Room for a record of another size than that, below or above it, and how many bytes it has. */
+static void *of_another_size(enum part part, size_t right, size_t *size) {
+    *size = draw() % (right + MORE);
+    if (*size >= right) ++*size;
+    return memset(at_edge(part, *size), FILL, *size);
+}
+
+/* Whether nothing was written into it. */
+static bool is_untouched(const char *room, size_t size) {
+    for (size_t at = 0; at < size; at++)
+        if (room[at] != FILL) return false;
+    return true;
+}
+
+/* Hands over a bus and draws of another size, which have to stay untouched: there may be no more of them. */
+static void other_sizes(const char *scenario, size_t bytes, unsigned long round) {
+    size_t size;
+    void *room = of_another_size(BUS, sizeof(struct vmebus), &size);
+    if (vmebus_open_sized(room, size, 1, scenario, bytes) != VMEBUS_FAULT_SIZE) fail("a bus of another size that is opened", round);
+    if (!is_untouched(room, size)) fail("a bus of another size that is written", round);
+    room = of_another_size(DRAWS, sizeof(struct vmebus_draws), &size);
+    if (vmebus_seed_sized(room, size, draw()) != VMEBUS_FAULT_SIZE) fail("draws of another size", round);
+    if (!is_untouched(room, size)) fail("draws of another size that are written", round);
 }
 
 int main(int count, char **words) {
@@ -318,12 +387,13 @@ int main(int count, char **words) {
     *bus = opened;
     for (unsigned long round = 1; round <= rounds; round++) {
         go_on(&running, &opened, trace, trace_bytes, &at);
-        if (round % 16 == 0) other_sizes(scenario, scenario_bytes, round);
-        if (round % 4 == 0) {
-            bus = at_edge(BUS, sizeof *bus);
-            draw_bus(bus, &running);
-        }
-        if (round % 512 == 0) open_round(bus, scenario, scenario_bytes, round);
+        struct vmebus kept = *bus;
+        other_sizes(scenario, scenario_bytes, round);
+        if (round % 512 == 0) open_again(&opened, scenario, scenario_bytes, round);
+        bus = at_edge(BUS, sizeof *bus);
+        *bus = kept;
+        if (round % 4 == 0) draw_bus(bus, &running);
+        open_round(bus, scenario, scenario_bytes, round);
         step_round(bus, trace, trace_bytes, round);
     }
     printf("%lu records and edges were answered\n", rounds);
