@@ -49,9 +49,9 @@ fn moments_file<'a>(alloc: Global) -> Arg<'a>
 fn rule_name<'a>(alloc: Global) -> Arg<'a>
     ensures { rule_of result ≡ said.word (codes "NAME") }
 {
-    Arg::new(alloc, "NAME")
-        .action(ArgAction::Set)
-        .help("Which rule or other code, such as G13 or X2 [default: all rules]")
+    Arg::new(alloc, "NAME").action(ArgAction::Set).help(
+        "Which rule or other code, such as G13 or X2 [default: all rules]",
+    )
 }
 
 /// The argument for the files of traces, of which at least one is required.

@@ -75,8 +75,7 @@ impl Progress for Reporter<'_> {
 impl OrderProgress for Reporter<'_> {
     fn lengthening(&mut self, length: usize, edges: usize, beginnings: usize) {
         if self.is_due() {
-            let _ = eprintln!(
-                self.rt;
+            let _ = eprintln!(self.rt;
                 "trying length {length} of {edges}, beginnings {beginnings}"
             );
         }

@@ -147,7 +147,5 @@ pub fn shrink<R: Read, W: Write, P: StoryProgress + Copy + Drop>(
         edge,
         progress,
     };
-    status_of(read::<Shrinking<P>, R, W>(
-        alloc, scenario, &asked, trace, out,
-    ))
+    status_of(read::<Shrinking<P>, R, W>(alloc, scenario, &asked, trace, out))
 }
