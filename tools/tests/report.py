@@ -23,7 +23,7 @@ from vmebus_tools.judging import Faulty, Judged, Legal, Refused, Rule, Trace, ju
 from vmebus_tools.junit import junit
 from vmebus_tools.page import MOST_EDGES, causes_of, command, headline, history, page
 from vmebus_tools.sums import Counts, sums
-from vmebus_tools.svg import safe
+from vmebus_tools.svg import escaped, safe
 
 TOP = Path(__file__).resolve().parents[2]
 MOMENT = datetime(2026, 12, 1, 9, 30, 5, tzinfo=timezone.utc)
@@ -49,8 +49,8 @@ SMALL_JUNIT = """<?xml version="1.0" encoding="UTF-8"?>
       <property name="version" value="VERSION"/>
     </properties>
     <testcase classname="vmebus" name="legal.vme" time="0"/>
-    <testcase classname="vmebus" name="twice.vme: edge 2, 1 br-" time="0">
-      <failure type="E2" message="edge 2, 1 br-: E2, not: 1 br is high">2 1 br- E2
+    <testcase classname="vmebus" name="twice.vme" time="0">
+      <failure type="E2" message="edge 2, 1 br-: E2, fails: 1 br is high">2 1 br- E2
 fails 1 br is high
     1 br low since 1
 
@@ -62,6 +62,8 @@ vme 1
     </testcase>
     <testcase classname="vmebus" name="broken.vme" time="0">
       <error type="X2" message="X2 line 3 is no edge">X2 line 3 is no edge
+    nothing
+vmebus rule X2 explains it
 </error>
     </testcase>
     <system-out>traces 2
@@ -178,7 +180,7 @@ class Reports(Small):
     def test_page(self) -> None:
         """The refused edges come first, with their picture, their reasons and their history, and then the rest."""
         status, out, said = self.call("scenario.toml", "legal.vme", "owner.vme", "twice.vme")
-        self.assertEqual((status, said), (2, ""))
+        self.assertEqual((status, said), (2, "report: 1 legal, 2 refused, 0 faults of 3 traces\n"))
         found = self.sound(out)
         self.assertEqual(found.tags.count("svg"), 2)
         self.assertEqual(out.count(".vmebus-picture .wave { fill"), 1)
@@ -211,9 +213,10 @@ class Reports(Small):
     def test_fault_beside(self) -> None:
         """A trace with a fault is an error, and the others are judged."""
         status, out, said = self.call("scenario.toml", "legal.vme", "broken.vme", "none.vme", "twice.vme", "--junit", "junit.xml")
-        self.assertEqual((status, said), (1, ""))
+        self.assertEqual((status, said), (1, "report: 1 legal, 1 refused, 2 faults of 4 traces\n"))
         text = self.sound(out).text
-        for part in ("1 of 4 traces has a refused edge, and 2 have a fault", "broken.vme X2 line 3 is no edge", "none.vme F1 cannot read none.vme", "legal.vme 6 edges"):
+        for part in ("1 of 4 traces has a refused edge, and 2 have a fault", "broken.vme X2 line 3 is no edge nothing vmebus rule X2 explains it",
+                     "none.vme F1 cannot read none.vme vmebus rule F1 explains it", "legal.vme 6 edges"):
             self.assertIn(part, text)
         suite = tree.parse(self.room / "junit.xml").getroot()[0]
         self.assertEqual([suite.get(it) for it in ("tests", "failures", "errors")], ["4", "1", "2"])
@@ -222,18 +225,37 @@ class Reports(Small):
     def test_fault_behind(self) -> None:
         """A fault behind a refused edge is told with it, and leaves the trace out of the sums."""
         judged = self.judged("late.vme")
-        self.assertEqual((judged.status, judged.summary, judged.traces[0].outcome.fault), (1, (), "X2 line 4 is no edge"))
+        self.assertEqual((judged.status, judged.summary, judged.traces[0].outcome.fault), (1, (), Faulty("X2 line 4 is no edge", "nothing")))
         text = self.sound(page(judged, MOMENT)).text
-        self.assertIn("Behind this edge: X2 line 4 is no edge", text)
+        self.assertIn("Behind this edge: X2 line 4 is no edge nothing vmebus rule X2 explains it", text)
         self.assertNotIn("exercised", text)
         file = junit(judged, MOMENT, 0)
-        self.assertIn("\nbehind this edge: X2 line 4 is no edge\n</failure>", file)
+        self.assertIn("\nbehind this edge: X2 line 4 is no edge\n    nothing\nvmebus rule X2 explains it\n</failure>", file)
         self.assertIn('failures="1" errors="0"', file)
+
+    def test_quoted(self) -> None:
+        """The line that a fault names is quoted as a text: what cannot be shown is another character, and much is cut."""
+        for line, wanted in (
+            ("", ""), ("1 br-\r", "1 br-\u240d"), ("<b>]]>&amp;", "<b>]]>&amp;"), ("\x1b[31m\u202e", "\u241b[31m\ufffd"),
+            ("a" * 80, "a" * 64 + "a" * 16), ("\u20ac" * 81, "\u20ac" * 80 + ".."), ("b" * 99_999 + "\n1 br-", "b" * 80 + ".."),
+        ):
+            with self.subTest(line[:20]):
+                (self.room / "odd.vme").write_bytes(f"{TWICE[:12]}{line}\n".encode())
+                judged = self.judged("odd.vme")
+                error = next(tree.fromstring(junit(judged, MOMENT, 0)).iter("error"))
+                said = judged.traces[0].outcome.fault
+                self.assertRegex(said, r"^X[23] line 3 is ")
+                self.assertEqual(error.text, f"{said}\n    {wanted}\nvmebus rule {said[:2]} explains it\n")
+                text = page(judged, MOMENT)
+                self.sound(text)
+                self.assertIn(f"<pre>{escaped(wanted)}</pre>", text)
+        self.assertEqual(judging.quoted(str(self.room / "none.vme"), "X2 line 3 is no edge"), None)
+        self.assertEqual(judging.quoted(str(self.room / "legal.vme"), "X4 the trace is cut off"), None)
 
     def test_twice(self) -> None:
         """A name that is given twice, and a trace that comes over a pipe, which can be read once."""
         status, out, said = self.call("scenario.toml", "legal.vme", "/dev/stdin", "legal.vme", input=TWICE.encode())
-        self.assertEqual((status, said), (2, ""))
+        self.assertEqual((status, said), (2, "report: 2 legal, 1 refused, 0 faults of 3 traces\n"))
         text = self.sound(out).text
         self.assertIn("/dev/stdin edge 2: 1 br-", text)
         self.assertIn("legal.vme 6 edges legal.vme 6 edges", text)
@@ -245,10 +267,10 @@ class Reports(Small):
             for name in names:
                 self.write(name, text)
         status, out, said = self.call("--junit=junit <&>.xml", "--", self.write("-<scenario>", ONE_SLOT), *legal, *refused, *broken)
-        self.assertEqual((status, said), (1, ""))
+        self.assertEqual((status, said), (1, "report: 12 legal, 12 refused, 12 faults of 36 traces\n"))
         found, cases = self.sound(out), [*tree.parse(self.room / "junit <&>.xml").getroot().iter("testcase")]
         names = [it.get("name") for it in cases]
-        self.assertEqual(names, [*map(safe, legal), *(f"{safe(it)}: edge 2, 1 br-" for it in refused), *map(safe, broken)])
+        self.assertEqual(names, [*map(safe, legal), *map(safe, refused), *map(safe, broken)])
         self.assertEqual([it for it in (safe(name) for name in (*legal, *refused, *broken)) if it not in "".join(found.texts)], [])
         self.assertEqual(found.tags.count("svg"), len(HOSTILE))
 
@@ -264,14 +286,21 @@ class Statuses(Small):
     """Exit statuses, and what is said on standard error."""
 
     def test_traces(self) -> None:
-        for status, names in (
-            (0, ("legal.vme",)), (0, ("legal.vme", "legal.vme")), (2, ("twice.vme",)), (2, ("legal.vme", "owner.vme")),
-            (1, ("broken.vme",)), (1, ("none.vme", "legal.vme")), (1, ("twice.vme", "broken.vme")), (1, ("late.vme", "legal.vme")),
-            (1, (".",)), (1, ("/dev/null",)),
+        for status, counts, names in (
+            (0, "1 legal, 0 refused, 0 faults of 1 trace", ("legal.vme",)),
+            (0, "2 legal, 0 refused, 0 faults of 2 traces", ("legal.vme", "legal.vme")),
+            (2, "0 legal, 1 refused, 0 faults of 1 trace", ("twice.vme",)),
+            (2, "1 legal, 1 refused, 0 faults of 2 traces", ("legal.vme", "owner.vme")),
+            (1, "0 legal, 0 refused, 1 fault of 1 trace", ("broken.vme",)),
+            (1, "1 legal, 0 refused, 1 fault of 2 traces", ("none.vme", "legal.vme")),
+            (1, "0 legal, 1 refused, 1 fault of 2 traces", ("twice.vme", "broken.vme")),
+            (1, "1 legal, 1 refused, 1 fault of 2 traces", ("late.vme", "legal.vme")),
+            (1, "0 legal, 0 refused, 1 fault of 1 trace", (".",)),
+            (1, "0 legal, 0 refused, 1 fault of 1 trace", ("/dev/null",)),
         ):
             with self.subTest(names):
                 ended, out, said = self.call("scenario.toml", *names)
-                self.assertEqual((ended, said), (status, ""))
+                self.assertEqual((ended, said), (status, f"report: {counts}\n"))
                 self.sound(out)
 
     def test_faults(self) -> None:

@@ -28,11 +28,14 @@ from .sums import Sums, sums
 BEFORE, BEHIND = 24, 6
 # How many seconds of a processor `shrink` may take for one trace.
 SECONDS = 10
+# How many characters of a line with a fault are quoted, and how many bytes of it are read.
+MOST_QUOTED, LONGEST = 80, 4 << 10
 
 SCENARIO = "scenario"
 VERDICT = re.compile(r"(?:.*/(\d+): )?(legal|illegal) (\d+)(?: (.*))?")
 FAULT = re.compile(r"vmebus: (?:.*/(\d+): )?([A-Z]\d+ .*)")
 UNREADABLE = re.compile(r"F1 cannot read .*/(\d+)")
+LINE = re.compile(r"X\d+ line (\d+) ")
 CODED = re.compile(r"([A-Z]\d+) (.*)", re.DOTALL)
 RULE = re.compile(r"(\w+) (any|(?:c )?\w+[-+](?: v)?) (.*)")
 
@@ -46,9 +49,23 @@ class Legal:
 
 @dataclass(frozen=True)
 class Faulty:
-    """A trace cannot be judged; the fault begins with its code if the program has one for it."""
+    """A trace cannot be judged; the fault begins with its code if the program has one for it.
+
+    `line` is the line of the trace that the fault names, if it names one.
+    """
 
     fault: str
+    line: Optional[str] = None
+
+    @property
+    def code(self) -> str:
+        """The code, which is empty if there is none."""
+        return parted(self.fault)[0]
+
+    @property
+    def help(self) -> str:
+        """The command that says more about the fault, if it has a code."""
+        return f"vmebus rule {self.code}" if self.code else ""
 
 
 @dataclass(frozen=True)
@@ -65,7 +82,7 @@ class Refused:
     explained: str
     history: Optional[Tuple[str, ...]]
     picture: str
-    fault: Optional[str]
+    fault: Optional[Faulty]
 
     @property
     def failing(self) -> Tuple[str, ...]:
@@ -110,10 +127,10 @@ class Judged:
         """The traces with a refused edge."""
         return [(it, it.outcome) for it in self.traces if isinstance(it.outcome, Refused)]
 
-    def faults(self) -> Sequence[Tuple[str, str]]:
+    def faults(self) -> Sequence[Tuple[str, Faulty]]:
         """The name of each trace with a fault, also behind a refused edge, and the fault."""
-        faults = [(it.name, getattr(it.outcome, "fault", None)) for it in self.traces]
-        return [(name, fault) for name, fault in faults if fault]
+        found = [(it.name, it.outcome.fault if isinstance(it.outcome, Refused) else it.outcome) for it in self.traces]
+        return [(name, fault) for name, fault in found if isinstance(fault, Faulty)]
 
     def legal(self) -> Sequence[Tuple[Trace, Legal]]:
         """The traces whose edges are all accepted."""
@@ -172,12 +189,12 @@ class Judging:
         rules, version = (it.result().out for it in texts)
         return Judged(self.scenario, traces, summary, found, rules_of(rules), version.strip())
 
-    def faults(self, ran: Ran) -> Dict[int, str]:
+    def faults(self, ran: Ran) -> Dict[int, Faulty]:
         """The fault of each trace that has one; a fault of the scenario or of the call is raised."""
-        faults: Dict[int, str] = {}
+        faults: Dict[int, Faulty] = {}
         for line in ran.err.splitlines():
             number, text = self.fault(line)
-            faults[number] = text
+            faults[number] = Faulty(text, quoted(self.links[number], text))
         if ran.status not in (0, 2) and not faults:
             raise Fault(ran.fault or "the program failed")
         return faults
@@ -207,7 +224,7 @@ class Judging:
             verdicts[int(found[1] or 0)] = (found[2] == "legal", int(found[3]), found[4] or "")
         return verdicts
 
-    def outcome(self, number: int, verdicts: Dict[int, Tuple[bool, int, str]], faults: Dict[int, str]) -> Union[Legal, Refused, Faulty]:
+    def outcome(self, number: int, verdicts: Dict[int, Tuple[bool, int, str]], faults: Dict[int, Faulty]) -> Union[Legal, Refused, Faulty]:
         is_legal, edge, verdict = verdicts.get(number, (True, 0, ""))
         if not is_legal:
             try:
@@ -215,12 +232,12 @@ class Judging:
             except Fault as fault:
                 return Faulty(str(fault))
         if number in faults:
-            return Faulty(faults[number])
+            return faults[number]
         if number not in verdicts:
             raise Fault(f"the program said nothing about {self.names[number]}")
         return Legal(edge)
 
-    def refused(self, number: int, edge: int, verdict: str, fault: Optional[str]) -> Union[Refused, Faulty]:
+    def refused(self, number: int, edge: int, verdict: str, fault: Optional[Faulty]) -> Union[Refused, Faulty]:
         """All that is told of a refused edge, if the file is still what `check` read."""
         ran = run(["explain", self.of_scenario, self.links[number]])
         head = ran.out.partition("\n")[0]
@@ -269,6 +286,22 @@ def limit(process: int) -> None:
     except ProcessLookupError:
         # It has ended.
         return
+
+
+def quoted(trace: str, fault: str) -> Optional[str]:
+    """The line of a trace that a fault names, of which so much is told; None if it names none, or the file is gone."""
+    found = LINE.match(fault)
+    if not found:
+        return None
+    try:
+        with open(trace, "rb") as file:
+            # No line before the fault's is long, or it had a fault itself.
+            for _ in range(int(found[1]) - 1):
+                file.readline(LONGEST)
+            text = file.readline(LONGEST).rstrip(b"\n").decode("utf-8", "replace")
+    except OSError:
+        return None
+    return text if len(text) <= MOST_QUOTED else f"{text[:MOST_QUOTED]}.."
 
 
 def parted(fault: str) -> Tuple[str, str]:

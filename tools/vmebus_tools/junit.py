@@ -9,7 +9,7 @@ from __future__ import annotations
 from datetime import datetime
 from typing import List, Optional, Sequence
 
-from .judging import SECONDS, Judged, Legal, Refused, Trace, parted
+from .judging import SECONDS, Faulty, Judged, Legal, Refused, Trace
 from .svg import escaped
 
 CLASS = "vmebus"
@@ -41,16 +41,14 @@ def errors(judged: Judged) -> int:
 
 
 def case(trace: Trace) -> List[str]:
-    """The lines of a trace's case."""
+    """The lines of a trace's case. Its name is that of the file whatever comes of it, so that it can be followed from run to run."""
     outcome = trace.outcome
     if isinstance(outcome, Legal):
         return [f"    <testcase {named(trace.name)}/>"]
     if isinstance(outcome, Refused):
-        name = f"{trace.name}: edge {outcome.number}, {outcome.edge}"
-        message = f"edge {outcome.number}, {outcome.edge}: {outcome.verdict}"
-        return framed(name, "failure", outcome.verdict, f"{message}, not: {', '.join(outcome.failing)}", reasons(outcome))
-    code, _ = parted(outcome.fault)
-    return framed(trace.name, "error", code or "fault", outcome.fault, [outcome.fault])
+        message = f"edge {outcome.number}, {outcome.edge}: {outcome.verdict}, fails: {', '.join(outcome.failing)}"
+        return framed(trace.name, "failure", outcome.verdict, message, reasons(outcome))
+    return framed(trace.name, "error", outcome.code or "fault", outcome.fault, told_of(outcome))
 
 
 def framed(name: str, element: str, kind: str, message: str, lines: Sequence[str]) -> List[str]:
@@ -77,9 +75,18 @@ def told(history: Optional[Sequence[str]]) -> List[str]:
     return ["a short trace with the same answer:", *history]
 
 
-def after(fault: Optional[str]) -> List[str]:
+def after(fault: Optional[Faulty]) -> List[str]:
     """What is wrong behind a refused edge."""
-    return ["", f"behind this edge: {fault}"] if fault else []
+    if not fault:
+        return []
+    first, *rest = told_of(fault)
+    return ["", f"behind this edge: {first}", *rest]
+
+
+def told_of(fault: Faulty) -> List[str]:
+    """A fault, the line of the trace that has it, and where more is said about it."""
+    quoted = [] if fault.line is None else [f"    {fault.line}"]
+    return [fault.fault, *quoted, *([f"{fault.help} explains it"] if fault.help else [])]
 
 
 def text(lines: Sequence[str]) -> str:

@@ -9,7 +9,7 @@ from datetime import datetime
 from typing import Dict, Iterator, List, Optional, Sequence, Tuple
 
 from . import style as picture_style
-from .judging import SECONDS, Judged, Refused, Rule, Trace, parted
+from .judging import SECONDS, Faulty, Judged, Refused, Rule, Trace, parted
 from .page_style import STYLE
 from .sums import Counts, Sums
 from .svg import escaped
@@ -169,7 +169,8 @@ def card(number: int, trace: Trace, outcome: Refused, scenario: str, is_open: bo
     yield f"<pre>{explained(outcome.explained)}</pre></div>"
     yield f"<div><h4>Short history</h4>{history(outcome.history)}</div></div>"
     if outcome.fault:
-        yield f'<p class="amber">Behind this edge: {escaped(outcome.fault)}</p>'
+        yield f'<p class="amber">Behind this edge: {escaped(outcome.fault.fault)}</p>'
+        yield more_of(outcome.fault)
     yield f'<pre class="command">{escaped(command("explain", scenario, trace.name))}</pre>'
     yield "</div></details>"
 
@@ -216,10 +217,16 @@ def faulty(judged: Judged) -> Iterator[str]:
     yield '<section id="faulty">\n<h2>With a fault <small>not in the sums below</small></h2>'
     yield '<div class="scroll"><table>\n<tr><th scope="col">Trace</th><th scope="col">Fault</th></tr>'
     for trace, fault in faults:
-        code, text = parted(fault)
+        code, text = parted(fault.fault)
         badge = f'<b class="amber">{escaped(code)}</b> ' if code else ""
-        yield f"<tr><td>{name(trace)}</td><td>{badge}{escaped(text)}</td></tr>"
+        yield f"<tr><td>{name(trace)}</td><td>{badge}{escaped(text)}{more_of(fault)}</td></tr>"
     yield "</table></div>\n</section>"
+
+
+def more_of(fault: Faulty) -> str:
+    """The line of the trace that has a fault, and where more is said about it."""
+    line = "" if fault.line is None else f"<pre>{escaped(fault.line)}</pre>"
+    return line + (f'<p class="muted"><code>{escaped(fault.help)}</code> explains it</p>' if fault.help else "")
 
 
 def exercised(judged: Judged) -> Iterator[str]:
