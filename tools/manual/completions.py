@@ -14,6 +14,9 @@ from .helps import Argument, Help, Option, Unreadable, ask
 SCENARIO = 'slots = 1\narbiter = "sgl"\n[[board]]\nslot = 1\n'
 TRACE = "vme 2\n"
 
+# The letters of the codes that `rule` explains, and how many codes a letter has at most.
+LETTERS, MOST_CODES = "EFLPQX", 20
+
 # What a file's name ends in, by what is said of it.
 SUFFIX = re.compile(r"\ba (\w+) file$")
 
@@ -23,6 +26,13 @@ MADE = "# Completions of vmebus {version} for {shell}, made by tools/manual of w
 def rules(program: Path) -> List[str]:
     """The names of the rules, which begin the lines of `rule`."""
     return [it.split(" ", 1)[0] for it in ask(program, "rule")[1].splitlines()]
+
+
+def explained(program: Path) -> List[str]:
+    """What `rule` explains: the rules, and the codes of refusals and faults. It lists no codes, so that it is asked for each."""
+    listed = rules(program)
+    candidates = (f"{letter}{number}" for letter in LETTERS for number in range(1, MOST_CODES + 1))
+    return [*listed, *(it for it in candidates if it not in listed and ask(program, "rule", it)[0] == 0)]
 
 
 def events(program: Path) -> List[str]:
@@ -42,7 +52,7 @@ def drivers(_: Path) -> List[str]:
 
 
 # Values that the program knows, by the name that stands for one in its help.
-KNOWN: Dict[str, Callable[[Path], List[str]]] = {"NAME": rules, "EVENT": events, "D": drivers}
+KNOWN: Dict[str, Callable[[Path], List[str]]] = {"NAME": explained, "EVENT": events, "D": drivers}
 
 
 @dataclass(frozen=True)

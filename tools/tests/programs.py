@@ -4,6 +4,7 @@ from __future__ import annotations
 
 import os
 import shutil
+import subprocess
 import tempfile
 import unittest
 from pathlib import Path
@@ -33,6 +34,16 @@ class Programs(unittest.TestCase):
     def ran(self, text: str, *words: str, input: bytes = b"") -> Ran:
         with mock.patch.dict(os.environ, VMEBUS_PROGRAM=str(self.script("named", text))):
             return program.run(words, input)
+
+    def test_draw(self) -> None:
+        """The example that draws tests calls the program that is named, and otherwise the one on the PATH."""
+        named, on_path = (self.script(name, f"echo {name}") for name in ("named", "path"))
+        environment = {**os.environ, "PATH": f"{on_path.parent}:{os.environ['PATH']}"}
+        draw = Path(program.TOP, "examples/negative-tests/draw")
+        for value, wanted in ((str(named), "named\n"), ("", "path\n")):
+            words = [str(draw), "1", str(self.room / "drawn")]
+            subprocess.run(words, cwd=draw.parent, env={**environment, "VMEBUS_PROGRAM": value}, check=True)
+            self.assertEqual((self.room / "drawn/1.vme").read_text(), wanted)
 
     def test_order(self) -> None:
         """The one that is named comes first, then the PATH, then what ./build made, then ./try."""
