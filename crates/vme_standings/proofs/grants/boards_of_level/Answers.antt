@@ -1,0 +1,13 @@
+use Rattle.std.proofs.Common.{◌≡◌, ◌∙◌, ap, arith}
+use Rattle.std.proofs.lemmas.Bool.Decides.{nat_tests}
+use Rattle.std.specs.Prelude.{◌&&◌, nat_lt}
+use Rattle.vme_standings.specs.GrantChains.{is_of_level}
+use Rattle.vme_standings.proofs.Slots.{level_below}
+use Rattle.vme_standings.proofs.grants.boards_of_level.Goals as goal
+
+pub returns : goal.returns
+returns c s =
+    let ended : c.loop-slot.slot ≡ 22 = grind (arith, nat_tests, c.loop-slot.auto.slot-end, c.loop-slot-test.false) in
+    c.loop-slot.invariant.held s
+    ∙ ap (λ n. nat_lt s n && is_of_level c.args.plan.now c.args.level s) ended
+    ∙ level_below c.args.plan.now c.loop-slot.invariant.accepted c.args.level s
