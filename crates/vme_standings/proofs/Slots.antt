@@ -23,6 +23,10 @@ assoc : (a b c : Bool) → (a && (b && c)) ≡ ((a && b) && c)
 assoc true b c = refl
 assoc false b c = refl
 
+pub level_below_and : (p : Plan) → IsAccepted p → (c s : ℕ) (b : Bool) → (nat_lt s 22 && (is_of_level p c s && b)) ≡ (is_of_level p c s && b)
+level_below_and p ok c s b =
+    assoc (nat_lt s 22) (is_of_level p c s) b ∙ ap (λ x. x && b) (level_below p ok c s)
+
 pub follower_below : (p : Plan) → IsAccepted p → (c place s : ℕ) → (nat_lt s 22 && is_follower p c place s) ≡ is_follower p c place s
 follower_below p ok c place s =
     assoc (nat_lt s 22) (is_of_level p c s) (place_before p c s == place)
@@ -50,22 +54,23 @@ releaser_below p ok requests phases s =
     (λ t far. ap (λ o. option_map_or (λ q. may_end requests q.release) (option_and_then (λ r. r.requester) o) false && has_phase phases (Held t t)) (no_board p ok t far)) s
 
 -- the segment before one is of a lower slot
+less_of : (s x t : ℕ) (b : Bool) (rest : Option ℕ) → nat_lt x s ≡ b → (rest ≡ Some t → nat_lt t s ≡ true) → (if b then Some x else rest) ≡ Some t → nat_lt t s ≡ true
+less_of s x t true rest is next e = let same : x ≡ t = cc in ap (λ n. nat_lt n s) (sym same) ∙ is
+less_of s x t false rest is next e = next e
+
 found_less : (s : ℕ) (xs : List ℕ) (t : ℕ) → find (λ t. nat_lt t s) xs ≡ Some t → nat_lt t s ≡ true
 found_less s [] t e = absurd (cc)
-found_less s (x ∷ xs) t e = by_test (nat_lt x s) refl e
-  where
-    by_test : (b : Bool) → nat_lt x s ≡ b → (if b then Some x else find (λ t. nat_lt t s) xs) ≡ Some t → nat_lt t s ≡ true
-    by_test true is e = let same : x ≡ t = cc in ap (λ n. nat_lt n s) (sym same) ∙ is
-    by_test false is e = found_less s xs t e
+found_less s (x ∷ xs) t e = less_of s x t (nat_lt x s) (find (λ t. nat_lt t s) xs) refl (found_less s xs t) e
+
+from_one : (p : Plan) → IsAccepted p → (c s : ℕ) (o : Option Row) → board p s ≡ o → option_map_or (requests_on c) o false ≡ true → 1 ≤ s
+from_one p ok c s None is e = absurd (cc)
+from_one p ok c s (Some r) is e = (stands p s r ok is).from_one
+
+before_of : (s : ℕ) (o : Option ℕ) → 1 ≤ s → ((t : ℕ) → o ≡ Some t → nat_lt t s ≡ true) → unwrap_or o 0 < s
+before_of s None from less = omega arith
+before_of s (Some t) from less = let is = less t refl in grind (arith, nat_tests)
 
 pub before_less : (p : Plan) → IsAccepted p → (c s : ℕ) → is_of_level p c s ≡ true → place_before p c s < s
-before_less p ok c s e = by_found (upstream p (grant_chain c) s) refl
-  where
-    by_board : (o : Option Row) → board p s ≡ o → option_map_or (requests_on c) o false ≡ true → 1 ≤ s
-    by_board None is e = absurd (cc)
-    by_board (Some r) is e = (stands p s r ok is).from_one
-
-    by_found : (o : Option ℕ) → upstream p (grant_chain c) s ≡ o → unwrap_or o 0 < s
-    by_found None is = let from = by_board (board p s) refl e in omega arith
-    by_found (Some t) is =
-        let less = found_less s (reverse (active p (grant_chain c))) t is in grind (arith, nat_tests)
+before_less p ok c s e =
+    before_of s (upstream p (grant_chain c) s) (from_one p ok c s (board p s) refl e)
+    (λ t is. found_less s (reverse (active p (grant_chain c))) t is)

@@ -16,7 +16,7 @@ use Rattle.vme_standings.specs.declared.phases.GrantPhase.{GrantPhase}
 use Rattle.vme_standings.specs.declared.phases.GrantPhase.TheVariants.{Idle, Granting, Held, Expired}
 use Rattle.vme_standings.specs.declared.phases.GrantPhases.{GrantPhases}
 use Rattle.vme_standings.specs.GrantChains.{end_place, is_follower, is_of_level, place_before, requester_at}
-use Rattle.vme_standings.specs.Phases.{has_phase, is_held_by}
+use Rattle.vme_standings.specs.Phases.{HasFree, has_phase}
 
 -- the policy picks the level of these requests, with that level last granted
 abbrev pub is_picked : Plan → BusLevels → ℕ → ℕ → Bool
@@ -97,17 +97,20 @@ behind_release p requests s (Idle c) =
     nat_lt c 4 && list_any (can_release p requests s) (active p (grant_chain c))
 behind_release p requests s _ = false
 
+-- a level above this one is requested
+abbrev pub is_asked_above : ℕ → BusLevels → Bool
+is_asked_above own requests =
+    list_any (λ m. nat_lt own m && has_bus_level requests m) bus_numbers
+
 -- a level above that of the board is requested
 abbrev pub is_outranked : Plan → BusLevels → ℕ → Bool
 is_outranked p requests b =
-    option_map_or
-    (λ q. list_any (λ m. nat_lt q.level m && has_bus_level requests m) bus_numbers)
-    (requester_at p b) false
+    option_map_or (λ q. is_asked_above q.level requests) (requester_at p b) false
 
 -- bus clear is due
 abbrev pub is_clear_due : Plan → BusLevels → GrantPhase → Bool
 is_clear_due p requests (Held b t) =
-    is_pri p.arbiter && is_outranked p requests b && nat_lt 0 t
+    (is_pri p.arbiter && is_outranked p requests b) && nat_lt 0 t
 is_clear_due p requests _ = false
 
 -- both are so, or neither is
@@ -117,13 +120,13 @@ are_alike a b = if a then b else not b
 -- The phases behind a fall of a BR line that one of these boards made: if there is one alone, it
 -- does not hold the bus.
 pub record IsBehindRequest (askers : SlotSet) (before behind : GrantPhases) : Type 0 where
-  -- no phase is added
-  pub kept : (q : GrantPhase) → has_phase behind q ≡ true → has_phase before q ≡ true
+  pub free : HasFree behind (has_phase before)
+  pub kept : (b t : ℕ) → has_phase behind (Held b t) ≡ true → has_phase before (Held b t) ≡ true
   -- who alone may have asked does not hold the bus
   pub another : (b t : ℕ) → b < 22 → has_phase behind (Held b t) ≡ true → has askers b ≡ true
       → (s : ℕ) × (has askers s ≡ true) × ((s == b) ≡ false)
-  -- all other phases stay
-  pub others : (q : GrantPhase) → has_phase before q ≡ true → is_held_by (has askers) q ≡ false
-      → has_phase behind q ≡ true
+  -- who did not ask, or not alone, may hold it
+  pub others : (b t : ℕ) → has_phase before (Held b t) ≡ true → has askers b ≡ false
+      → has_phase behind (Held b t) ≡ true
   pub several : (b t s : ℕ) → has_phase before (Held b t) ≡ true → s < 32 → has askers s ≡ true
       → (s == b) ≡ false → has_phase behind (Held b t) ≡ true

@@ -1,5 +1,5 @@
 -- Which phases of the grants and BBSY* a set has.
-use Rattle.std.specs.Prelude.{◌≡◌, ◌==◌, ◌&&◌, if◌then◌else◌, ℕ, Bool, true, false, Option, Some, None, nat_lt, slice_index_or}
+use Rattle.std.specs.Prelude.{◌≡◌, ◌<◌, ◌==◌, ◌&&◌, if◌then◌else◌, ℕ, Bool, true, false, Option, Some, None, nat_lt, slice_index_or}
 use Rattle.vme_bus.specs.declared.sets.SlotSet.{SlotSet}
 use Rattle.vme_bus.specs.Sets.{has}
 use Rattle.vme_standings.specs.declared.phases.GrantPhase.{GrantPhase}
@@ -53,6 +53,19 @@ level_of (Idle c) = Some c
 level_of (Granting c last) = Some c
 level_of (Held b first) = None
 level_of (Expired c first) = Some c
+
+-- the phases of the set are those that pass the test
+pub record HasExactly (s : GrantPhases) (test : GrantPhase → Bool) : Type 0 where
+  pub idle : (c : ℕ) → c < 4 → has_phase s (Idle c) ≡ test (Idle c)
+  pub granting : (c t : ℕ) → c < 4 → t < 32 → has_phase s (Granting c t) ≡ test (Granting c t)
+  pub held : (b t : ℕ) → b < 22 → t < 32 → has_phase s (Held b t) ≡ test (Held b t)
+  pub expired : (c t : ℕ) → c < 4 → t < 32 → has_phase s (Expired c t) ≡ test (Expired c t)
+
+-- the same of the phases in which nobody holds the bus
+pub record HasFree (s : GrantPhases) (test : GrantPhase → Bool) : Type 0 where
+  pub idle : (c : ℕ) → c < 4 → has_phase s (Idle c) ≡ test (Idle c)
+  pub granting : (c t : ℕ) → c < 4 → t < 32 → has_phase s (Granting c t) ≡ test (Granting c t)
+  pub expired : (c t : ℕ) → c < 4 → t < 32 → has_phase s (Expired c t) ≡ test (Expired c t)
 
 -- the new set is the old one but for one row
 pub record ChangesIdle (level : ℕ) (may_be : Bool) (old new : GrantPhases) : Type 0 where

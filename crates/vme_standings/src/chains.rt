@@ -3,6 +3,7 @@ ghost use Rattle.std.specs.Prelude.{◌≡◌, ℕ};
 ghost use Rattle.vme_bus.specs.Sets.{has};
 ghost use Rattle.vme_standings.specs.GrantChains.{end_place, is_follower, is_of_level, place_before, requester_at};
 
+use crate::phases::with_if;
 use vme_bus::SlotSet;
 use vme_model::{ChainId, RequesterRow};
 use vme_slots::Plan;
@@ -58,9 +59,7 @@ pub fn followers(plan: &Plan, level: u8, place: u8) -> SlotSet
     plan.accepted();
     let mut found = SlotSet::NONE;
     for slot in 0..22_u8 {
-        if is_follower(plan, level, place, slot) {
-            found = found.with(slot);
-        }
+        found = with_if(found, slot, is_follower(plan, level, place, slot));
     }
     found
 }

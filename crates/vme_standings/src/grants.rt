@@ -5,14 +5,15 @@ ghost use Rattle.vme_bus.specs.Sets.{has};
 ghost use Rattle.vme_model.specs.Signals.{is_two};
 ghost use Rattle.vme_standings.specs.declared.phases.GrantPhase.{GrantPhase as PhaseValue};
 ghost use Rattle.vme_standings.specs.GrantChains.{is_of_level};
-ghost use Rattle.vme_standings.specs.Phases.{has_phase, is_held, is_held_by, is_in_table};
+ghost use Rattle.vme_standings.specs.Phases.{HasExactly, HasFree, has_phase, is_held_by, is_in_table};
 ghost use Rattle.vme_standings.specs.declared.phases.GrantPhase.TheVariants.{Held};
-ghost use Rattle.vme_standings.specs.Grants.{IsBehindRequest, are_alike, behind_grant, behind_pass, behind_release, behind_rise, behind_take, can_release, held_behind_rise, is_asked, is_clear_due, is_granted, is_let_go, is_outranked, is_passed, is_picked, is_run_out, is_taken, may_end};
+ghost use Rattle.vme_standings.specs.Grants.{IsBehindRequest, are_alike, is_asked_above, behind_grant, behind_pass, behind_release, behind_rise, behind_take, can_release, held_behind_rise, is_asked, is_clear_due, is_granted, is_let_go, is_outranked, is_passed, is_picked, is_run_out, is_taken, may_end};
 ghost use Rattle.std.specs.List.{list_any};
 ghost use Rattle.vme_model.specs.Plan.{active, grant_chain};
+ghost use Rattle.vme_model.specs.Rules.{is_pri};
 
 use crate::chains::{end_place, followers, is_of_level, place_before, requester_at};
-use crate::phases::GrantPhases;
+use crate::phases::{GrantPhases, row_if, with_if};
 use vme_arbiter::{AnyPolicy, Policy};
 use vme_bus::SlotSet;
 use vme_model::{ArbiterKind, BusLevels, ChainId, Release, Version};
@@ -33,11 +34,23 @@ pub fn boards_of_level(plan: &Plan, level: u8) -> SlotSet
     plan.accepted();
     let mut boards = SlotSet::NONE;
     for slot in 0..22_u8 {
-        if is_of_level(plan, level, slot) {
-            boards = boards.with(slot);
-        }
+        boards = with_if(boards, slot, is_of_level(plan, level, slot));
     }
     boards
+}
+
+/// Of these slots those whose board is of the level.
+fn of_level(plan: &Plan, level: u8, slots: SlotSet) -> SlotSet
+    ensures { (s : ℕ) → has result s ≡ (is_of_level plan.now level s && has slots s) }
+{
+    plan.accepted();
+    let mut found = SlotSet::NONE;
+    for slot in 0..22_u8 {
+        let is_of_level = is_of_level(plan, level, slot);
+        let is_held = slots.has(slot);
+        found = with_if(found, slot, is_of_level && is_held);
+    }
+    found
 }
 
 /// Whether the policy picks the level of these requests, with another level last granted.
@@ -69,14 +82,13 @@ pub fn behind_grant(
     phases: &GrantPhases,
 ) -> GrantPhases
     requires { level < 4 }
-    ensures { (q : PhaseValue) →
-        has_phase result q ≡ behind_grant plan.now requests level phases.now q }
+    ensures { HasExactly result (behind_grant plan.now requests level phases.now) }
 {
     let mut behind = GrantPhases::none();
-    if !is_granted(plan, requests, level, phases) {
+    if is_granted(plan, requests, level, phases) {
+        behind.set_granting_row(level, just(0));
         return behind;
     }
-    behind.set_granting_row(level, just(0));
     behind
 }
 
@@ -103,14 +115,13 @@ pub fn behind_pass(
 ) -> GrantPhases
     requires level { level < 4 }
     requires slot { slot < 22 }
-    ensures { (q : PhaseValue) →
-        has_phase result q ≡ behind_pass plan.now version level slot phases.now q }
+    ensures { HasExactly result (behind_pass plan.now version level slot phases.now) }
 {
     let mut behind = GrantPhases::none();
-    if !is_passed(plan, version, level, slot, phases) {
+    if is_passed(plan, version, level, slot, phases) {
+        behind.set_granting_row(level, just(slot));
         return behind;
     }
-    behind.set_granting_row(level, just(slot));
     behind
 }
 
@@ -144,16 +155,15 @@ pub fn behind_rise(
     phases: &GrantPhases,
 ) -> GrantPhases
     requires { level < 4 }
-    ensures { (q : PhaseValue) → is_in_table q ≡ true →
-        has_phase result q ≡ behind_rise plan.now version level place phases.now q }
+    ensures { HasExactly result (behind_rise plan.now version level place phases.now) }
 {
     let next = followers(plan, level, place);
     let mut behind = held_behind_rise(plan, level, place, next, phases);
-    if !is_run_out(plan, version, level, place, phases) {
+    if is_run_out(plan, version, level, place, phases) {
+        behind.set_expired_row(level, next);
+        behind.set_idle(level, place == end_place(plan, level));
         return behind;
     }
-    behind.set_expired_row(level, next);
-    behind.set_idle(level, place == end_place(plan, level));
     behind
 }
 
@@ -165,14 +175,12 @@ fn held_behind_rise(
     next: SlotSet,
     phases: &GrantPhases,
 ) -> GrantPhases
-    ensures { (q : PhaseValue) → is_in_table q ≡ true → has_phase result q
-        ≡ held_behind_rise plan.now level place next phases.now q }
+    ensures { HasExactly result (held_behind_rise plan.now level place next phases.now) }
 {
     let mut behind = GrantPhases::none();
     for board in 0..22_u8 {
-        if is_let_go(plan, level, place, board, phases) {
-            behind.set_held_row(board, next);
-        }
+        let is_let_go = is_let_go(plan, level, place, board, phases);
+        behind.set_held_row(board, row_if(is_let_go, next));
     }
     behind
 }
@@ -194,14 +202,12 @@ fn is_taken(plan: &Plan, requests: BusLevels, board: u8, phases: &GrantPhases) -
 
 /// The phases behind a fall of BBSY*. Their holders may have made it.
 pub fn behind_take(plan: &Plan, requests: BusLevels, phases: &GrantPhases) -> GrantPhases
-    ensures { (q : PhaseValue) → is_in_table q ≡ true →
-        has_phase result q ≡ behind_take plan.now requests phases.now q }
+    ensures { HasExactly result (behind_take plan.now requests phases.now) }
 {
     let mut behind = GrantPhases::none();
     for board in 0..22_u8 {
-        if is_taken(plan, requests, board, phases) {
-            behind.set_held_row(board, just(0));
-        }
+        let is_taken = is_taken(plan, requests, board, phases);
+        behind.set_held_row(board, row_if(is_taken, just(0)));
     }
     behind
 }
@@ -243,9 +249,7 @@ pub fn releasers(plan: &Plan, requests: BusLevels, phases: &GrantPhases) -> Slot
     plan.accepted();
     let mut found = SlotSet::NONE;
     for board in 0..22_u8 {
-        if can_release(plan, requests, board, phases) {
-            found = found.with(board);
-        }
+        found = with_if(found, board, can_release(plan, requests, board, phases));
     }
     found
 }
@@ -261,8 +265,7 @@ fn is_one_of_level(plan: &Plan, boards: SlotSet, level: u8) -> bool
 
 /// The phases behind a rise of BBSY*. The `releasers` may have made it.
 pub fn behind_release(plan: &Plan, requests: BusLevels, phases: &GrantPhases) -> GrantPhases
-    ensures { (q : PhaseValue) → is_in_table q ≡ true →
-        has_phase result q ≡ behind_release plan.now requests phases.now q }
+    ensures { HasExactly result (behind_release plan.now requests phases.now) }
 {
     let boards = releasers(plan, requests, phases);
     let mut behind = GrantPhases::none();
@@ -272,19 +275,39 @@ pub fn behind_release(plan: &Plan, requests: BusLevels, phases: &GrantPhases) ->
     behind
 }
 
+/// Whether a level above this one is requested.
+fn is_asked_above(own: u8, requests: BusLevels) -> bool
+    ensures { result ≡ is_asked_above own requests }
+{
+    [0, 1, 2, 3]
+        .iter()
+        .any(|level| own < *level && requests.has(*level))
+}
+
 /// Whether a level above that of the board in a slot is requested.
 fn is_outranked(plan: &Plan, requests: BusLevels, board: u8) -> bool
     ensures { result ≡ is_outranked plan.now requests board }
 {
     match requester_at(plan, board) {
-        Some(requester) => {
-            let own = requester.level;
-            [0, 1, 2, 3]
-                .iter()
-                .any(|level| own < *level && requests.has(*level))
-        }
+        Some(requester) => is_asked_above(requester.level, requests),
         None => false,
     }
+}
+
+/// Whether a board does not hold the bus in some phase.
+fn is_elsewhere(slot: u8, phases: &GrantPhases) -> bool
+    ensures some { result ≡ true → (q : PhaseValue) × (has_phase phases.now q ≡ true)
+        × (is_held_by (λ b. b == slot) q ≡ false) }
+    ensures all { (q : PhaseValue) → is_in_table q ≡ true → has_phase phases.now q ≡ true
+        → is_held_by (λ b. b == slot) q ≡ false → result ≡ true }
+{
+    let is_free = phases.has_free();
+    if is_free {
+        return true;
+    }
+    let holders = phases.holders();
+    let is_other = has_other(holders, slot);
+    is_other
 }
 
 /// The boards that may have made a fall of the BR line of a level: in some phase they do not hold
@@ -297,13 +320,11 @@ pub fn askers(plan: &Plan, level: u8, phases: &GrantPhases) -> SlotSet
         → is_of_level plan.now level s ≡ true → has_phase phases.now q ≡ true
         → is_held_by (λ b. b == s) q ≡ false → has result s ≡ true }
 {
-    let is_free = phases.has_free();
-    let holders = phases.holders();
     let mut found = SlotSet::NONE;
     for slot in 0..22_u8 {
-        if is_of_level(plan, level, slot) && (is_free || has_other(holders, slot)) {
-            found = found.with(slot);
-        }
+        let is_of_level = is_of_level(plan, level, slot);
+        let is_elsewhere = is_elsewhere(slot, phases);
+        found = with_if(found, slot, is_of_level && is_elsewhere);
     }
     found
 }
@@ -321,6 +342,20 @@ fn has_other(slots: SlotSet, slot: u8) -> bool
     false
 }
 
+/// Whether the set holds that slot and no other.
+fn is_alone(slots: SlotSet, slot: u8) -> bool
+    ensures held { result ≡ true → has slots slot ≡ true }
+    ensures alone { result ≡ true → (s : ℕ) → s < 32 → has slots s ≡ true → s ≡ slot }
+    ensures other { result ≡ false → has slots slot ≡ true
+        → (s : ℕ) × (has slots s ≡ true) × ((s == slot) ≡ false) }
+{
+    if !slots.has(slot) {
+        return false;
+    }
+    let is_other = has_other(slots, slot);
+    !is_other
+}
+
 /// The phases behind a fall of a BR line that one of these boards made: if there is one alone, it
 /// does not hold the bus.
 pub fn behind_request(askers: SlotSet, phases: &GrantPhases) -> GrantPhases
@@ -328,9 +363,8 @@ pub fn behind_request(askers: SlotSet, phases: &GrantPhases) -> GrantPhases
 {
     let mut behind = *phases;
     for slot in 0..22_u8 {
-        if askers.has(slot) && !has_other(askers, slot) {
-            behind.set_held_row(slot, SlotSet::NONE);
-        }
+        let is_alone = is_alone(askers, slot);
+        behind.set_held_row(slot, row_if(!is_alone, phases.held_row(slot)));
     }
     behind
 }
@@ -352,12 +386,10 @@ pub fn withdrawers(
         is_of_level plan.now level s ≡ true → has_phase phases.now (Held s first) ≡ true →
         has result s ≡ true }
 {
-    let boards = boards_of_level(plan, level);
     if version.is_two() {
-        boards
-    } else {
-        phases.held_by(boards).holders()
+        return boards_of_level(plan, level);
     }
+    of_level(plan, level, phases.holders())
 }
 
 /// The phases behind a rise of the BR line of a level: in the first version one of its boards holds
@@ -368,14 +400,22 @@ pub fn behind_withdrawal(
     level: u8,
     phases: &GrantPhases,
 ) -> GrantPhases
-    ensures { (q : PhaseValue) → is_in_table q ≡ true → has_phase result q
-        ≡ (has_phase phases.now q
-        && (is_two version || is_held_by (is_of_level plan.now level) q)) }
+    ensures { HasExactly result (λ q.
+        (is_two version || is_held_by (is_of_level plan.now level) q) && has_phase phases.now q) }
 {
     if version.is_two() {
-        *phases
-    } else {
-        phases.held_by(boards_of_level(plan, level))
+        return *phases;
+    }
+    phases.held_by(boards_of_level(plan, level))
+}
+
+/// Whether bus clear is due to a board that holds the bus, once the controller's grant is high.
+fn can_be_due(plan: &Plan, requests: BusLevels, board: u8) -> bool
+    ensures { result ≡ (is_pri plan.now.arbiter && is_outranked plan.now requests board) }
+{
+    match plan.arbiter() {
+        ArbiterKind::Pri => is_outranked(plan, requests, board),
+        _ => false,
     }
 }
 
@@ -403,8 +443,7 @@ fn row_behind_clear(row: SlotSet, is_outranked: bool, is_due: bool) -> SlotSet
 
 /// Of the phases behind a change of BCLR* those in which nobody holds the bus: it is not due.
 fn free_behind_clear(fall: bool, phases: &GrantPhases) -> GrantPhases
-    ensures { (q : PhaseValue) → is_held q ≡ false
-        → has_phase result q ≡ (has_phase phases.now q && not fall) }
+    ensures { HasFree result (λ q. has_phase phases.now q && not fall) }
 {
     if fall { GrantPhases::none() } else { *phases }
 }
@@ -417,14 +456,13 @@ pub fn behind_clear(
     fall: bool,
     phases: &GrantPhases,
 ) -> GrantPhases
-    ensures { (q : PhaseValue) → is_in_table q ≡ true → has_phase result q
-        ≡ (has_phase phases.now q && are_alike (is_clear_due plan.now requests q) fall) }
+    ensures { HasExactly result (λ q.
+        has_phase phases.now q && are_alike (is_clear_due plan.now requests q) fall) }
 {
-    let is_pri = plan.arbiter() == ArbiterKind::Pri;
     let mut behind = free_behind_clear(fall, phases);
     for board in 0..22_u8 {
-        let is_outranked = is_pri && is_outranked(plan, requests, board);
-        let row = row_behind_clear(phases.held_row(board), is_outranked, fall);
+        let can_be_due = can_be_due(plan, requests, board);
+        let row = row_behind_clear(phases.held_row(board), can_be_due, fall);
         behind.set_held_row(board, row);
     }
     behind

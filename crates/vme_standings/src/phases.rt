@@ -1,9 +1,9 @@
 //! How the grants and BBSY* stand, and sets of that.
-ghost use Rattle.std.specs.Prelude.{◌≡◌, ◌&&◌, ◌<◌, ℕ, false, true, Some};
+ghost use Rattle.std.specs.Prelude.{◌≡◌, ◌==◌, ◌&&◌, ◌||◌, ◌<◌, ℕ, false, true, if◌then◌else◌, Some};
 ghost use Rattle.vme_bus.specs.Sets.{has};
 ghost use Rattle.vme_standings.specs.declared.phases.GrantPhase.{GrantPhase as PhaseValue};
 ghost use Rattle.vme_standings.specs.declared.phases.GrantPhase.TheVariants.{Held};
-ghost use Rattle.vme_standings.specs.Phases.{ChangesExpired, ChangesGranting, ChangesHeld, ChangesIdle, expired_row, granting_row, has_phase, held_row, is_held, is_idle_at, is_in_table, level_of};
+ghost use Rattle.vme_standings.specs.Phases.{ChangesExpired, ChangesGranting, ChangesHeld, ChangesIdle, HasExactly, expired_row, granting_row, has_phase, held_row, is_held, is_held_by, is_idle_at, is_in_table, level_of};
 
 use vme_bus::SlotSet;
 
@@ -23,6 +23,22 @@ pub enum GrantPhase {
     Expired { level: u8, first: u8 },
 }
 
+/// The set with the slot if it is to be in it.
+pub(crate) fn with_if(slots: SlotSet, slot: u8, is_in: bool) -> SlotSet
+    requires { slot < 32 }
+    ensures { (s : ℕ) → has result s
+        ≡ (if s == slot then (has slots s || is_in) else has slots s) }
+{
+    if is_in { slots.with(slot) } else { slots }
+}
+
+/// The row if it is to be there, or else an empty one.
+pub(crate) fn row_if(is_there: bool, row: SlotSet) -> SlotSet
+    ensures { (t : ℕ) → has result t ≡ (is_there && has row t) }
+{
+    if is_there { row } else { SlotSet::NONE }
+}
+
 /// A set of such phases, a bit for each.
 #[derive(Clone, Copy, PartialEq, Eq)]
 pub struct GrantPhases {
@@ -39,7 +55,7 @@ pub struct GrantPhases {
 impl GrantPhases {
     /// The set without a phase.
     pub fn none() -> GrantPhases
-        ensures { (q : PhaseValue) → has_phase result q ≡ false }
+        ensures { HasExactly result (λ q. false) }
     {
         GrantPhases {
             idle: [false; 4],
@@ -136,30 +152,24 @@ impl GrantPhases {
     /// The boards that hold the bus in some phase of the set.
     pub fn holders(&self) -> SlotSet
         ensures some { (b : ℕ) → has result b ≡ true
-            → (first : ℕ) × (has_phase self.now (Held b first) ≡ true) }
+            → (b < 22) × ((first : ℕ) × (has_phase self.now (Held b first) ≡ true)) }
         ensures all { (b first : ℕ) → b < 22 → has_phase self.now (Held b first) ≡ true
             → has result b ≡ true }
     {
         let mut holders = SlotSet::NONE;
         for board in 0..22_u8 {
-            if self.held_row(board).is_some() {
-                holders = holders.with(board);
-            }
+            holders = with_if(holders, board, self.held_row(board).is_some());
         }
         holders
     }
 
     /// The phases in which one of these boards holds the bus.
     pub fn held_by(&self, boards: SlotSet) -> GrantPhases
-        ensures held { (b first : ℕ) → b < 22 → has_phase result (Held b first)
-            ≡ (has boards b && has_phase self.now (Held b first)) }
-        ensures free { (q : PhaseValue) → is_held q ≡ false → has_phase result q ≡ false }
+        ensures { HasExactly result (λ q. is_held_by (has boards) q && has_phase self.now q) }
     {
         let mut kept = GrantPhases::none();
         for board in 0..22_u8 {
-            if boards.has(board) {
-                kept.set_held_row(board, self.held_row(board));
-            }
+            kept.set_held_row(board, row_if(boards.has(board), self.held_row(board)));
         }
         kept
     }
@@ -186,8 +196,16 @@ impl GrantPhases {
         ensures all { (q : PhaseValue) → level_of q ≡ Some level → has_phase self.now q ≡ true
             → result ≡ true }
     {
-        self.is_idle_at(level)
-            || self.granting_row(level).is_some()
-            || self.expired_row(level).is_some()
+        if self.is_idle_at(level) {
+            return true;
+        }
+        let lasts = self.granting_row(level);
+        let is_granting = lasts.is_some();
+        if is_granting {
+            return true;
+        }
+        let firsts = self.expired_row(level);
+        let is_expired = firsts.is_some();
+        is_expired
     }
 }

@@ -1,9 +1,7 @@
 use Rattle.std.proofs.Common.{◌≡◌, ◌<◌, ◌≤◌, ℕ, true, false}
 use Rattle.std.specs.Prelude.{◌==◌}
 use Rattle.vme_bus.specs.Sets.{has}
-use Rattle.vme_standings.specs.declared.phases.GrantPhase.{GrantPhase}
-use Rattle.vme_standings.specs.declared.phases.GrantPhase.TheVariants.{Held}
-use Rattle.vme_standings.specs.Phases.{has_phase, held_row, is_held}
+use Rattle.vme_standings.specs.Phases.{HasFree, has_phase, held_row}
 use Rattle.vme_standings.proofs.grants.behind_request.Given as goal
 
 abbrev pub invariant-loop-slot : goal.invariant-loop-slot
@@ -14,5 +12,5 @@ invariant-loop-slot l = record {
   others : (b t : ℕ) → has (held_row l.phases b) t ≡ true → has l.askers b ≡ false → has (held_row l.behind b) t ≡ true;
   several : (b t s : ℕ) → has (held_row l.phases b) t ≡ true → s < 32 → has l.askers s ≡ true → (s == b) ≡ false
       → has (held_row l.behind b) t ≡ true;
-  free : (q : GrantPhase) → is_held q ≡ false → has_phase l.behind q ≡ has_phase l.phases q;
+  free : HasFree l.behind (λ q. has_phase l.phases q);
 }
