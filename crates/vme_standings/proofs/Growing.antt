@@ -63,14 +63,17 @@ grow_all f g P k b takes inv is s l h = by_place (s == k) refl
         let near : s < k = grind (arith, nat_tests) in
         takes s ∙ ap (λ x. if x then (f s || b) else f s) at ∙ inv s near h
 
+swap : (x y : Bool) → (x && y) ≡ (y && x)
+swap true true = refl
+swap true false = refl
+swap false true = refl
+swap false false = refl
+
 pub turn : (a b x y : Bool) → a ≡ x → b ≡ y → (a && b) ≡ (y && x)
-turn a b true true e f = rw (e, f) refl
-turn a b true false e f = rw (e, f) refl
-turn a b false true e f = rw (e, f) refl
-turn a b false false e f = rw (e, f) refl
+turn a b x y e f = ap (λ u. u && b) e ∙ ap (λ u. x && u) f ∙ swap x y
 
 pub both : (a b : Bool) → a ≡ true → b ≡ true → (a && b) ≡ true
-both a b e f = rw (e, f) refl
+both a b e f = ap (λ u. u && b) e ∙ f
 
 pub same_both : (a b x y : Bool) → a ≡ x → b ≡ y → (a && b) ≡ (x && y)
-same_both a b x y e f = rw (e, f) refl
+same_both a b x y e f = ap (λ u. u && b) e ∙ ap (λ u. x && u) f

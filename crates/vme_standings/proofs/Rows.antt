@@ -76,11 +76,11 @@ last false = refl
 
 -- a row of a level alone
 pub granting_only : (c : ℕ) (row : SlotSet) (f : ℕ → Bool) (old new : GrantPhases) (b : Bool) → ChangesGranting c row old new → HasExactly old (λ q. false) → ((t : ℕ) → has row t ≡ f t) → b ≡ true → (n t : ℕ) → n < 4 → t < 32 → has (granting_row new n) t ≡ (n == c && f t && b)
-granting_only c row f old new b change none is yes n t l m = by_place (n == c) refl
+granting_only c row f old new b change none is so n t l m = by_place (n == c) refl
   where
     by_place : (x : Bool) → (n == c) ≡ x → has (granting_row new n) t ≡ (n == c && f t && b)
     by_place true at =
-        ap (λ r. has r t) (change.granting n) ∙ ap (λ x. has (if x then row else granting_row old n) t) at ∙ is t ∙ last (f t) ∙ ap (λ x. true && f t && x) (sym yes) ∙ ap (λ x. x && f t && b) (sym at)
+        ap (λ r. has r t) (change.granting n) ∙ ap (λ x. has (if x then row else granting_row old n) t) at ∙ is t ∙ last (f t) ∙ ap (λ x. true && f t && x) (sym so) ∙ ap (λ x. x && f t && b) (sym at)
     by_place false at =
         ap (λ r. has r t) (change.granting n) ∙ ap (λ x. has (if x then row else granting_row old n) t) at ∙ none.granting n t l m ∙ ap (λ x. x && f t && b) (sym at)
 
@@ -93,19 +93,19 @@ granting_added c row old new change none = (
 )
 
 pub expired_only : (c : ℕ) (row : SlotSet) (f : ℕ → Bool) (old new : GrantPhases) (b : Bool) → ChangesExpired c row old new → ((n t : ℕ) → n < 4 → t < 32 → has (expired_row old n) t ≡ false) → ((t : ℕ) → has row t ≡ f t) → b ≡ true → (n t : ℕ) → n < 4 → t < 32 → has (expired_row new n) t ≡ (n == c && b && f t)
-expired_only c row f old new b change none is yes n t l m = by_place (n == c) refl
+expired_only c row f old new b change none is so n t l m = by_place (n == c) refl
   where
     by_place : (x : Bool) → (n == c) ≡ x → has (expired_row new n) t ≡ (n == c && b && f t)
     by_place true at =
-        ap (λ r. has r t) (change.expired n) ∙ ap (λ x. has (if x then row else expired_row old n) t) at ∙ is t ∙ ap (λ x. true && x && f t) (sym yes) ∙ ap (λ x. x && b && f t) (sym at)
+        ap (λ r. has r t) (change.expired n) ∙ ap (λ x. has (if x then row else expired_row old n) t) at ∙ is t ∙ ap (λ x. true && x && f t) (sym so) ∙ ap (λ x. x && b && f t) (sym at)
     by_place false at =
         ap (λ r. has r t) (change.expired n) ∙ ap (λ x. has (if x then row else expired_row old n) t) at ∙ none n t l m ∙ ap (λ x. x && b && f t) (sym at)
 
 pub idle_only : (c : ℕ) (may_be e : Bool) (old new : GrantPhases) (b : Bool) → ChangesIdle c may_be old new → ((n : ℕ) → n < 4 → is_idle_at old n ≡ false) → may_be ≡ e → b ≡ true → (n : ℕ) → n < 4 → is_idle_at new n ≡ (n == c && b && e)
-idle_only c may_be e old new b change none is yes n l = by_place (n == c) refl
+idle_only c may_be e old new b change none is so n l = by_place (n == c) refl
   where
     by_place : (x : Bool) → (n == c) ≡ x → is_idle_at new n ≡ (n == c && b && e)
     by_place true at =
-        change.idle n ∙ ap (λ x. if x then may_be else is_idle_at old n) at ∙ is ∙ ap (λ x. true && x && e) (sym yes) ∙ ap (λ x. x && b && e) (sym at)
+        change.idle n ∙ ap (λ x. if x then may_be else is_idle_at old n) at ∙ is ∙ ap (λ x. true && x && e) (sym so) ∙ ap (λ x. x && b && e) (sym at)
     by_place false at =
         change.idle n ∙ ap (λ x. if x then may_be else is_idle_at old n) at ∙ none n l ∙ ap (λ x. x && b && e) (sym at)

@@ -39,6 +39,13 @@ pub fn boards_of_level(plan: &Plan, level: u8) -> SlotSet
     boards
 }
 
+/// Whether both are so.
+fn both(a: bool, b: bool) -> bool
+    ensures { result ≡ (a && b) }
+{
+    a && b
+}
+
 /// Of these slots those whose board is of the level.
 fn of_level(plan: &Plan, level: u8, slots: SlotSet) -> SlotSet
     ensures { (s : ℕ) → has result s ≡ (is_of_level plan.now level s && has slots s) }
@@ -48,7 +55,8 @@ fn of_level(plan: &Plan, level: u8, slots: SlotSet) -> SlotSet
     for slot in 0..22_u8 {
         let is_of_level = is_of_level(plan, level, slot);
         let is_held = slots.has(slot);
-        found = with_if(found, slot, is_of_level && is_held);
+        let is_both = both(is_of_level, is_held);
+        found = with_if(found, slot, is_both);
     }
     found
 }
@@ -324,7 +332,8 @@ pub fn askers(plan: &Plan, level: u8, phases: &GrantPhases) -> SlotSet
     for slot in 0..22_u8 {
         let is_of_level = is_of_level(plan, level, slot);
         let is_elsewhere = is_elsewhere(slot, phases);
-        found = with_if(found, slot, is_of_level && is_elsewhere);
+        let is_both = both(is_of_level, is_elsewhere);
+        found = with_if(found, slot, is_both);
     }
     found
 }

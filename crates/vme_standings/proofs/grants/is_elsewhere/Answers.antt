@@ -13,4 +13,4 @@ pub returns-clause-some : goal.returns-clause-some
 returns-clause-some c h =
     let w = c.has_other-is_other.ensures.some h in
     let v = c.holders-holders.ensures.some w.0 w.1 in
-    (Held w.0 v.1, v.2, w.2)
+    (Held w.0 v.1.0, v.1.1, w.2)

@@ -7,7 +7,7 @@ pub returns-clause-some : goal.returns-clause-some
 returns-clause-some c one s h =
     let e = sym (c.of_level.ensures s) ∙ h in
     let w = c.holders.ensures.some s (and_right _ _ e) in
-    (and_left _ _ e, (w.1, w.2))
+    (and_left _ _ e, w.1)
 
 pub returns-clause-all : goal.returns-clause-all
 returns-clause-all c one s first near level holds =
