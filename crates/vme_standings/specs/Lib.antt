@@ -1,0 +1,7 @@
+-- `believe` marks what a theorem rests on, and `words` what only says how one function serves
+-- another.
+
+-- words: what is asked of sets of slots
+pub mod Slots
+-- words: what the calls of `Requests` do to the sets
+pub mod RequestSets

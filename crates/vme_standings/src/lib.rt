@@ -1,0 +1,10 @@
+//! What can be known of a bus by the changes that an analyser saw: of each part of the bus the set
+//! of the ways in which it may stand.
+//!
+//! A set may hold a way too many, and never one too few.
+#![tactic(auto)]
+
+mod requests;
+mod sets;
+
+pub use requests::{Request, Requests};
