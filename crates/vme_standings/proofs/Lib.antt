@@ -1,2 +1,12 @@
 -- tests of sets that hold and fail: `Requests::falls`, `acknowledged`, `passed`
 pub mod Tests
+-- how an edge moves an interrupt request: `unseen_edge_keeps_requests_covered`
+pub mod RequestSteps
+-- what covers the requests behind an edge that a line shows: the other laws of the requests
+pub mod RequestRows
+-- what a line is before and behind an edge, by what the probes see of it
+pub mod SeenLines
+-- the laws of the requests
+pub mod RequestLaws
+-- the laws of edges that move no request, and of those by which a board passes an acknowledge on
+pub mod RequestPasses

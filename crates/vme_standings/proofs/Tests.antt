@@ -1,5 +1,5 @@
 -- Tests of sets that hold and fail: `Requests::falls`, `acknowledged`, `passed`.
-use Rattle.std.proofs.Common.{◌≡◌, ℕ, Bool, true, false, refl, sym, ◌∙◌, arith}
+use Rattle.std.proofs.Common.{◌≡◌, ◌⊎◌, ℕ, Bool, true, false, refl, inl, inr, arith}
 use Rattle.std.specs.Prelude.{◌&&◌, ◌||◌, not}
 use Rattle.vme_bus.specs.Sets.{has}
 use Rattle.vme_standings.specs.declared.requests.Request.{Request}
@@ -10,6 +10,20 @@ use Rattle.vme_standings.specs.RequestSets.{may_be}
 pub is_false : (b : Bool) → (b ≡ true → ⊥) → b ≡ false
 is_false true h = absurd (h refl)
 is_false false h = refl
+
+pub never : (b : Bool) → b ≡ true → b ≡ false → ⊥
+never b on off = cc
+
+-- a test decides what it tells
+pub by_test : {X : Type 0} (b : Bool) → (b ≡ true → X) → (X → b ≡ true) → X ⊎ (X → ⊥)
+by_test true f g = inl (f refl)
+by_test false f g = inr (λ x. never false (g x) refl)
+
+pub or_left : (a b : Bool) → a ≡ true → (a || b) ≡ true
+or_left a b e = grind arith
+
+pub both : (a b : Bool) → a ≡ true → b ≡ true → (a && b) ≡ true
+both a b e f = grind arith
 
 pub or_true : (a b : Bool) → b ≡ true → (a || b) ≡ true
 or_true a b e = grind arith

@@ -79,6 +79,9 @@ pub record AnyAccessed (rora : SlotSet) (old new : Requests) : Type 0 where
 pub record Acknowledged (answering roak : SlotSet) (old new : Requests) : Type 0 where
   pub others : EachSlot (λ s.
       has answering s ≡ false → (r : Request) → may_be new s r ≡ may_be old s r)
+  -- it is the only one, or it is not
+  pub either : EachSlot (λ s.
+      has answering s ≡ true → HasOther answering s ⊎ (HasOther answering s → ⊥))
   pub several : EachSlot (λ s. has answering s ≡ true → HasOther answering s
       → (may_be new s High ≡ may_be old s High)
       × (may_be new s Pending ≡ may_be old s Pending)

@@ -4,7 +4,10 @@
 //! A set may hold a way too many, and never one too few.
 #![tactic(auto)]
 
+mod interrupters;
+pub mod laws;
 mod requests;
 mod sets;
 
+pub use interrupters::Interrupters;
 pub use requests::{Request, Requests};

@@ -1,7 +1,7 @@
 use Rattle.std.proofs.Common.{◌≡◌, ◌∙◌, sym, ap, Bool, true, false, arith}
 use Rattle.std.specs.Prelude.{◌&&◌, ◌||◌, not}
 use Rattle.vme_bus.specs.Sets.{has}
-use Rattle.vme_standings.proofs.Tests.{is_false, same_states}
+use Rattle.vme_standings.proofs.Tests.{by_test, is_false, same_states}
 use Rattle.vme_standings.proofs.requests.Requests.acknowledged.Goals as goal
 
 -- one slot: whether it answers, and with others; whether it answers alone, is served by it, and is of those that are
@@ -42,6 +42,7 @@ returns c = record {
       (high_other _ _ _ _ _ a b _ _ (c.except.ensures.within s near) off)
       (pending_other _ _ _ _ _ a b _ _ _ (c.except-2.ensures.within s near) (c.both.ensures.within s near) off)
       (served_other _ _ _ _ _ a b _ _ _ _ (c.or.ensures s) (c.except-4.ensures.within s near) (c.except-3.ensures.within s near) off);
+  either = λ s from near on. by_test (has c.several.result s) (c.several.ensures.other s from near) (c.several.ensures.several s from near on);
   several = λ s from near on other.
       let a = c.except-alone.ensures.within s near in
       let b = c.both-served.ensures.within s near in
