@@ -1,5 +1,7 @@
 -- tests of sets that hold and fail: `Requests::falls`, `acknowledged`, `passed`
 pub mod Tests
+-- one slot more in a loop over slots: `Interrupters::slots`
+pub mod Loops
 -- how an edge moves an interrupt request: `unseen_edge_keeps_requests_covered`
 pub mod RequestSteps
 -- what covers the requests behind an edge that a line shows: the other laws of the requests
@@ -10,3 +12,5 @@ pub mod SeenLines
 pub mod RequestLaws
 -- the laws of edges that move no request, and of those by which a board passes an acknowledge on
 pub mod RequestPasses
+-- who drives AS* and DTACK*
+pub mod Drivers

@@ -79,7 +79,7 @@ module _ (p : Plan) (ok : IsAccepted p) (h : List Edge) (low shared : SlotSet) (
   }
 
 -- who moved a line, in a slot
-is_by : (e : Edge) (P : ℕ → Type 0) (s : ℕ) → InSlot s → is_same_driver e.driver (Slot s) ≡ true → P s → IsBy e P
+pub is_by : (e : Edge) (P : ℕ → Type 0) (s : ℕ) → InSlot s → is_same_driver e.driver (Slot s) ≡ true → P s → IsBy e P
 is_by e P s i driver fact = record { slot = s; positive = i.from; near = i.near; driver = same_driver e.driver s driver; fact = fact }
 
 module _ (version : Version) (p : Plan) (pins : List Pin) (h : List Edge) (e : Edge) (v : Change) (old new : Requests)
@@ -260,11 +260,11 @@ module _ (version : Version) (p : Plan) (pins : List Pin) (h : List Edge) (e : E
 
             own : (t : ℕ) → InSlot t → has answering t ≡ true → may_be old t Pending ≡ true → (b : Bool) → has roak t ≡ b → may_be new t (step Dtack true b Pending) ≡ true
             own t i on may true r =
-                ⊎_elim (λ several. (a.several t i.from i.near on several).2 ∙ or_true _ _ r)
-                (λ alone. (a.alone t i.from i.near on alone).2 ∙ r) (a.either t i.from i.near on)
+                ⊎_elim (λ (several : HasOther answering t). (a.several t i.from i.near on several).2 ∙ or_true _ _ r)
+                (λ (alone : HasOther answering t → ⊥). (a.alone t i.from i.near on alone).2 ∙ r) (a.either t i.from i.near on)
             own t i on may false r =
-                ⊎_elim (λ several. (a.several t i.from i.near on several).1 ∙ may)
-                (λ alone. (a.alone t i.from i.near on alone).1 ∙ keeps _ _ may r) (a.either t i.from i.near on)
+                ⊎_elim (λ (several : HasOther answering t). (a.several t i.from i.near on several).1 ∙ may)
+                (λ (alone : HasOther answering t → ⊥). (a.alone t i.from i.near on alone).1 ∙ keeps _ _ may r) (a.either t i.from i.near on)
 
             other_one : (t : ℕ) → is_same_driver e.driver (Slot t) ≡ false → HasOther answering t
             other_one t off = record {

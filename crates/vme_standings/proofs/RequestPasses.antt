@@ -80,7 +80,7 @@ module _ (version : Version) (p : Plan) (h : List Edge) (e : Edge) (s n : ℕ) (
       (subst (λ v. holds (pass_guard (readings p h (Slot s)) v) ≡ true) shows (and_right _ (holds (pass_guard (readings p h (Slot s)) (shown p h))) passed.rule))
 
   never_pending : request_of p h s ≡ Pending → ⊥
-  never_pending is = ⊎_elim (λ a. high_not (sym a ∙ is)) (λ a. served_not (sym a ∙ is)) stood
+  never_pending is = ⊎_elim (λ (a : request_of p h s ≡ High). high_not (sym a ∙ is)) (λ (a : request_of p h s ≡ Served). served_not (sym a ∙ is)) stood
     where
       high_not : High ≡ Pending → ⊥
       high_not x = cc
@@ -110,12 +110,12 @@ module _ (version : Version) (p : Plan) (h : List Edge) (e : Edge) (s n : ℕ) (
 
   -- so it may pass
   pub can_pass : (boards : SlotSet) → AreOnLevel p n boards → CannotPass s boards (interrupt_line p h n) old → ⊥
-  can_pass boards held = ⊎_elim unable (λ x. nobody x.0 x.1)
+  can_pass boards held = ⊎_elim unable (λ (x : (interrupt_line p h n ≡ true) × ((t : ℕ) → t < 22 → pulls_without s old boards t ≡ false)). nobody x.0 x.1)
     where
       unable : (may_be old s High || may_be old s Served) ≡ false → ⊥
       unable none =
-          ⊎_elim (λ a. never (may_be old s High || may_be old s Served) (or_left _ _ (subst (λ q. may_be old s q ≡ true) a (covers s some_at))) none)
-          (λ a. never (may_be old s High || may_be old s Served) (or_true _ _ (subst (λ q. may_be old s q ≡ true) a (covers s some_at))) none) stood
+          ⊎_elim (λ (a : request_of p h s ≡ High). never (may_be old s High || may_be old s Served) (or_left _ _ (subst (λ q. may_be old s q ≡ true) a (covers s some_at))) none)
+          (λ (a : request_of p h s ≡ Served). never (may_be old s High || may_be old s Served) (or_true _ _ (subst (λ q. may_be old s q ≡ true) a (covers s some_at))) none) stood
 
       pulls : (b p a v : Bool) → b ≡ true → p ≡ true → a ≡ false → (b && ((p && not a) || v)) ≡ true
       pulls b p a v e f g = grind arith
@@ -134,7 +134,6 @@ module _ (version : Version) (p : Plan) (h : List Edge) (e : Edge) (s n : ℕ) (
       nobody : interrupt_line p h n ≡ true → ((t : ℕ) → t < 22 → pulls_without s old boards t ≡ false) → ⊥
       nobody line none =
           let f = some_row (pulls_interrupt h n) (IsRowInRange p) p.rows (in_range p ok).rows line in
-          let t = f.0.slot in
           let there : is_on_level p n f.0.slot ≡ true = ap (λ (o : Option Row). option_map_or (interrupts_on n) o false) f.2.alone ∙ and_left (interrupts_on n f.0) (drive h (Slot f.0.slot) Irq) f.1 in
           let some = interrupts_there p n f.0.slot there in
           let q : request_of p h f.0.slot ≡ request_by true (is_served p h (Slot f.0.slot)) = ap (λ b. request_by b (is_served p h (Slot f.0.slot))) (and_right (interrupts_on n f.0) (drive h (Slot f.0.slot) Irq) f.1) in

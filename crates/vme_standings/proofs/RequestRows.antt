@@ -1,7 +1,7 @@
 -- What the requests are covered by behind an edge that the interrupt lines or DTACK* show.
-use Rattle.std.proofs.Common.{◌≡◌, ◌≢◌, ◌∙◌, refl, sym, ap, subst, ℕ, Bool, true, false, List, ◌∷◌, arith}
+use Rattle.std.proofs.Common.{◌≡◌, ◌≢◌, ◌∙◌, refl, sym, ap, subst, ℕ, Bool, true, false, List, ◌∷◌, ◌<◌, ◌≤◌, arith}
 use Rattle.std.specs.Prelude.{◌==◌, ◌&&◌, ◌||◌, not, if◌then◌else◌, is_some, Option, Some, None}
-use Rattle.std.specs.Option.{option_map_or}
+use Rattle.std.specs.Option.{option_map_or, IfSome}
 use Rattle.std.proofs.lemmas.Bool.Decides.{nat_tests}
 use Rattle.vme_model.specs.declared.boards.Row.{Row}
 use Rattle.vme_model.specs.declared.boards.InterrupterRow.{InterrupterRow}
@@ -13,7 +13,7 @@ use Rattle.vme_model.specs.declared.signals.Wire.TheVariants.{Irq, Dtack, IackOu
 use Rattle.vme_model.specs.declared.signals.Cycle.{Cycle}
 use Rattle.vme_model.specs.declared.signals.Cycle.TheVariants.{Acknowledge, Access}
 use Rattle.vme_model.specs.declared.signals.Edge.{Edge}
-use Rattle.vme_model.specs.Signals.{is_same_driver, is_same_wire, is_edge_of}
+use Rattle.vme_model.specs.Signals.{is_same_driver, is_same_wire, is_edge_of, is_level}
 use Rattle.vme_model.specs.Plan.{Plan, board, drives, interrupts_on}
 use Rattle.vme_model.specs.Accepted.{IsAccepted}
 use Rattle.vme_model.specs.History.{drive, line, interrupt_line, pulls_line, pulls_interrupt, served_since_request, serves, shown}
@@ -30,6 +30,7 @@ use Rattle.vme_standings.specs.declared.requests.Request.TheVariants.{High, Pend
 use Rattle.vme_standings.specs.Requests.{request_by, request_of, is_interrupter, is_on_level, CoversRequests, HasHidden}
 use Rattle.vme_standings.proofs.RequestSteps.{step, Interrupts, interrupts, after, same_driver}
 use Rattle.vme_histories.proofs.Others.{same_wire}
+use Rattle.vme_histories.proofs.AllowedBoards.{stands}
 
 both : (a b : Bool) → a ≡ true → b ≡ true → (a && b) ≡ true
 both a b e f = grind arith
@@ -56,6 +57,25 @@ interrupts_there p n t on =
     let b = on_level_is p n t on in
     ap (λ (o : Option Row). option_map_or (λ r. is_some r.interrupter) o false) b.found ∙ some_of b.row.interrupter n b.on
 
+-- a level is below 8
+level_of : (o : Option InterrupterRow) (n : ℕ) → option_map_or (λ i. i.level == n) o false ≡ true → option_map_or (λ i. i.level) o 0 ≡ n
+level_of None n on = absurd (cc)
+level_of (Some i) n on = same_number i.level n on
+
+pub level_near : (p : Plan) → IsAccepted p → (n s : ℕ) → is_on_level p n s ≡ true → n < 8
+level_near p ok n s on =
+    let b = on_level_is p n s on in
+    subst (λ x. x < 8) (level_of b.row.interrupter n b.on) (stands p s b.row ok b.found).interrupt
+
+-- and it is a level
+pub level_is : (p : Plan) (s : ℕ) (r : Row) (i : InterrupterRow) → IsAccepted p → board p s ≡ Some r → r.interrupter ≡ Some i → is_level i.level ≡ true
+level_is p s r i ok found has =
+    let f = found_row (IsRowInRange p) p.rows s r (in_range p ok).rows found in
+    within i.level (subst (λ (o : Option InterrupterRow). IfSome o (λ j. (1 ≤ j.level) × (j.level < 8))) has f.fact.irq)
+  where
+    within : (n : ℕ) → (1 ≤ n) × (n < 8) → is_level n ≡ true
+    within n l = let low : 1 ≤ n = l.0 in let high : n < 8 = l.1 in grind (arith, nat_tests)
+
 -- on a high line nobody pulls
 pub silent : (p : Plan) → IsAccepted p → (g : List Edge) (n t : ℕ) → interrupt_line p g n ≡ false → is_on_level p n t ≡ true → drive g (Slot t) Irq ≡ false
 silent p ok g n t high on =
@@ -77,7 +97,7 @@ turned_by true low way fall e f = (refl, e)
 turned_by false low way true e f = absurd (never (sym f ∙ e))
 turned_by false low way false e f = absurd (never (sym e ∙ f))
 
-mover : (p : Plan) (h : List Edge) (e : Edge) (w : Wire) (fall : Bool) (P : ℕ → Type 0) (s : ℕ) → drive h (Slot s) w ≡ not fall → drive (e ∷ h) (Slot s) w ≡ fall → P s → MovedBy p e w fall P
+pub mover : (p : Plan) (h : List Edge) (e : Edge) (w : Wire) (fall : Bool) (P : ℕ → Type 0) (s : ℕ) → drive h (Slot s) w ≡ not fall → drive (e ∷ h) (Slot s) w ≡ fall → P s → MovedBy p e w fall P
 mover p h e w fall P s before behind fact =
     let t = turned_by (is_edge_of (Slot s) w e) (drive h (Slot s) w) e.fall fall behind before in
     record {
@@ -170,7 +190,6 @@ module _ (p : Plan) (h : List Edge) (e : Edge) (old new : ℕ → Request → Bo
         m = irq_fell p ok h e n high low
 
         by_level : (l : Bool) → is_on_level p n t ≡ l → (b : Bool) → is_same_driver e.driver (Slot t) ≡ b → new t (request_of p (e ∷ h) t) ≡ true
-        unfolding m
         by_level true on true is = ap (new t) (of_own t some Irq true is m.wire m.way) ∙ pending t on
         by_level true on false is =
             ap (new t) (of_other t some is ∙ stays_high t (silent p ok h n t high on))
@@ -189,7 +208,6 @@ module _ (p : Plan) (h : List Edge) (e : Edge) (old new : ℕ → Request → Bo
         m = irq_rose p ok h e n low high
 
         by_level : (l : Bool) → is_on_level p n t ≡ l → (b : Bool) → is_same_driver e.driver (Slot t) ≡ b → new t (request_of p (e ∷ h) t) ≡ true
-        unfolding m
         by_level true on b is =
             ap (new t) (ap (λ x. request_by x (is_served p (e ∷ h) (Slot t))) (silent p ok (e ∷ h) n t high on)) ∙ highs t on
         by_level false off true is =

@@ -55,6 +55,8 @@ moved true Dtack true true true false = refl
 moved true Dtack true false low served = refl
 moved true w true serves low served = refl
 moved true w false serves low served = refl
+moved false Irq true serves low served = refl
+moved false Irq false serves low served = refl
 moved false w true serves low served = refl
 moved false w false serves low served = refl
 

@@ -34,7 +34,7 @@ abbrev change : Plan → List Edge → Edge → Signal → Change
 change p h e x = record { signal = x; fall = e.fall; value = value_at p h e e.wire e.fall }
 
 -- an edge that no probe sees leaves its line
-line_stays : (p : Plan) (pins : List Pin) (h : List Edge) (e : Edge) (l : Line) → line_of e.wire (board_of p e.driver) ≡ Some l → seen p pins h e ≡ None
+pub line_stays : (p : Plan) (pins : List Pin) (h : List Edge) (e : Edge) (l : Line) → line_of e.wire (board_of p e.driver) ≡ Some l → seen p pins h e ≡ None
     → is_line_low p (e ∷ h) l ≡ is_line_low p h l
 line_stays p pins h e l is none =
     none_differ (is_line_low p h l) (is_line_low p (e ∷ h) l) (change p h e (signal.Line l))

@@ -3,6 +3,8 @@
 
 -- believe: how the interrupt requests stand, and when sets cover them
 pub mod Requests
+-- believe: who drives the strobes and answers a cycle, and when a set says so
+pub mod Cycles
 -- words: which boards have which interrupters
 pub mod Interrupters
 -- words: what is asked of sets of slots

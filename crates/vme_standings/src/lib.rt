@@ -4,10 +4,12 @@
 //! A set may hold a way too many, and never one too few.
 #![tactic(auto)]
 
+mod cycle;
 mod interrupters;
 pub mod laws;
 mod requests;
 mod sets;
 
-pub use interrupters::Interrupters;
+pub use cycle::showers;
+pub use interrupters::{Interrupters, on_low_lines, sharing};
 pub use requests::{Request, Requests};
