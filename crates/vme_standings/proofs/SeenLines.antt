@@ -86,7 +86,7 @@ module _ (p : Plan) (ok : IsAccepted p) (pins : List Pin) (h : List Edge) (e : E
   pub way : (fall : Bool) → v.fall ≡ fall → e.fall ≡ fall
   way fall is = (is_seen p pins h e v s).way ∙ is
 
-  differs : (x : Signal) → v.signal ≡ x → differ (is_low p h x) (is_low p (e ∷ h) x) ≡ true
+  pub differs : (x : Signal) → v.signal ≡ x → differ (is_low p h x) (is_low p (e ∷ h) x) ≡ true
   differs x is = subst (λ y. differ (is_low p h y) (is_low p (e ∷ h) y) ≡ true) is (is_seen p pins h e v s).differs
 
   pub irq_falls : (n : ℕ) → v.signal ≡ signal.Line (on_line.Irq n) → v.fall ≡ true → (interrupt_line p h n ≡ false) × (interrupt_line p (e ∷ h) n ≡ true)

@@ -11,7 +11,7 @@ ghost use Rattle.vme_captures.specs.declared.signals.Line.TheVariants as line;
 ghost use Rattle.vme_captures.specs.declared.signals.Pin.{Pin};
 ghost use Rattle.vme_captures.specs.declared.signals.Signal.TheVariants as signal;
 ghost use Rattle.vme_model.specs.Accepted.{IsAccepted};
-ghost use Rattle.vme_model.specs.History.{interrupt_line, shown};
+ghost use Rattle.vme_model.specs.History.{drive, interrupt_line, shown};
 ghost use Rattle.vme_model.specs.Plan.{Plan};
 ghost use Rattle.vme_model.specs.Signals.{is_same_driver};
 ghost use Rattle.vme_model.specs.Verdict.{IsLegal};
@@ -19,7 +19,8 @@ ghost use Rattle.vme_model.specs.declared.signals.Cycle.TheVariants.{Acknowledge
 ghost use Rattle.vme_model.specs.declared.signals.Driver.TheVariants.{Slot};
 ghost use Rattle.vme_model.specs.declared.signals.Edge.{Edge};
 ghost use Rattle.vme_model.specs.declared.signals.Version.{Version};
-ghost use Rattle.vme_model.specs.declared.signals.Wire.TheVariants.{Irq, Dtack, IackOut};
+ghost use Rattle.vme_model.specs.declared.signals.Wire.TheVariants.{Bbsy, AddressStrobe, Irq, IackOut, Dtack};
+ghost use Rattle.vme_standings.specs.Cycles.{CoversDrivers};
 ghost use Rattle.vme_standings.specs.Interrupters.{is_meant_at};
 ghost use Rattle.vme_standings.specs.RequestSets.{may_be, MovesUnseen, Falls, Rises, MayRise, Accessed, AnyAccessed, Acknowledged, Passes, CannotPass};
 ghost use Rattle.vme_standings.specs.Requests.{CoversRequests, HasHidden, AreLow, AreShared, AreOnLevel, IsBy, MayAnswer, is_on_level};
@@ -141,4 +142,70 @@ pub fn other_edges_keep_requests_covered()
     ensures { (p : Plan) (h : List Edge) (e : Edge) (old : Requests) →
         e.wire ≢ Irq → (e.wire ≡ Dtack → e.fall ≡ false) → CoversRequests p h (may_be old)
         → CoversRequests p (e ∷ h) (may_be old) }
+{}
+
+/// An edge that no probe sees leaves those covered who may drive AS* and DTACK*.
+pub fn unseen_edge_keeps_drivers_covered()
+    ensures strobe { (version : Version) (p : Plan) (pins : List Pin) (h : List Edge) (e : Edge)
+        (old : SlotSet) →
+        IsAccepted p → IsLegal version p (e ∷ h) → seen p pins h e ≡ None
+        → CoversDrivers h AddressStrobe old → CoversDrivers (e ∷ h) AddressStrobe old }
+    ensures answer { (version : Version) (p : Plan) (pins : List Pin) (h : List Edge) (e : Edge)
+        (old : SlotSet) →
+        IsAccepted p → IsLegal version p (e ∷ h) → seen p pins h e ≡ None
+        → CoversDrivers h Dtack old → CoversDrivers (e ∷ h) Dtack old }
+{}
+
+/// Behind a fall of DTACK* whoever made it drives it, and nobody else. A rise is by one that drives
+/// it, and behind it nobody does.
+pub fn answer_falls_and_rises()
+    ensures falls { (version : Version) (p : Plan) (pins : List Pin) (h : List Edge) (e : Edge)
+        (v : Change) (new : SlotSet) →
+        IsAccepted p → IsLegal version p (e ∷ h) → seen p pins h e ≡ Some v
+        → v.signal ≡ signal.Line line.Dtack → v.fall ≡ true
+        → ((s : ℕ) → e.driver ≡ Slot s → has new s ≡ true) → CoversDrivers (e ∷ h) Dtack new }
+    ensures by { (version : Version) (p : Plan) (pins : List Pin) (h : List Edge) (e : Edge)
+        (v : Change) (old : SlotSet) →
+        IsAccepted p → IsLegal version p (e ∷ h) → seen p pins h e ≡ Some v
+        → v.signal ≡ signal.Line line.Dtack → v.fall ≡ false → CoversDrivers h Dtack old
+        → IsBy e (λ s. has old s ≡ true) }
+    ensures rises { (version : Version) (p : Plan) (pins : List Pin) (h : List Edge) (e : Edge)
+        (v : Change) (new : SlotSet) →
+        IsAccepted p → IsLegal version p (e ∷ h) → seen p pins h e ≡ Some v
+        → v.signal ≡ signal.Line line.Dtack → v.fall ≡ false → CoversDrivers (e ∷ h) Dtack new }
+{}
+
+/// A fall of AS* is by a board that holds the bus; behind it that board drives it, and nobody else.
+/// A rise is by one that drives it, and behind it nobody does.
+pub fn address_strobe_falls_and_rises()
+    ensures holder { (version : Version) (p : Plan) (pins : List Pin) (h : List Edge) (e : Edge)
+        (v : Change) →
+        IsAccepted p → IsLegal version p (e ∷ h) → seen p pins h e ≡ Some v
+        → v.signal ≡ signal.Line line.AddressStrobe → v.fall ≡ true
+        → IsBy e (λ s. drive h (Slot s) Bbsy ≡ true) }
+    ensures falls { (version : Version) (p : Plan) (pins : List Pin) (h : List Edge) (e : Edge)
+        (v : Change) (new : SlotSet) →
+        IsAccepted p → IsLegal version p (e ∷ h) → seen p pins h e ≡ Some v
+        → v.signal ≡ signal.Line line.AddressStrobe → v.fall ≡ true
+        → ((s : ℕ) → e.driver ≡ Slot s → has new s ≡ true)
+        → CoversDrivers (e ∷ h) AddressStrobe new }
+    ensures by { (version : Version) (p : Plan) (pins : List Pin) (h : List Edge) (e : Edge)
+        (v : Change) (old : SlotSet) →
+        IsAccepted p → IsLegal version p (e ∷ h) → seen p pins h e ≡ Some v
+        → v.signal ≡ signal.Line line.AddressStrobe → v.fall ≡ false
+        → CoversDrivers h AddressStrobe old → IsBy e (λ s. has old s ≡ true) }
+    ensures rises { (version : Version) (p : Plan) (pins : List Pin) (h : List Edge) (e : Edge)
+        (v : Change) (new : SlotSet) →
+        IsAccepted p → IsLegal version p (e ∷ h) → seen p pins h e ≡ Some v
+        → v.signal ≡ signal.Line line.AddressStrobe → v.fall ≡ false
+        → CoversDrivers (e ∷ h) AddressStrobe new }
+{}
+
+/// A fall of DS* is by a board that drives AS*.
+pub fn data_strobe_falls()
+    ensures { (version : Version) (p : Plan) (pins : List Pin) (h : List Edge) (e : Edge)
+        (v : Change) (old : SlotSet) →
+        IsAccepted p → IsLegal version p (e ∷ h) → seen p pins h e ≡ Some v
+        → v.signal ≡ signal.Line line.DataStrobe → v.fall ≡ true
+        → CoversDrivers h AddressStrobe old → IsBy e (λ s. has old s ≡ true) }
 {}
