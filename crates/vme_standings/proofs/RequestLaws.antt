@@ -102,8 +102,8 @@ module _ (version : Version) (p : Plan) (pins : List Pin) (h : List Edge) (e : E
         (λ t some off q. let i = interrupter_in p ok t some in f.others t i.from i.near (held t ∙ off) q)
         (λ t on. let i = on_it t on in f.pending t i.from i.near (held t ∙ on))
         (λ a t other on differs.
-          let i = on_it t on in
-          f.shared t i.from i.near (held t ∙ on) (record { other = a; positive = (on_it a other).from; differs = differs; held = held a ∙ other }))
+        let i = on_it t on in
+        f.shared t i.from i.near (held t ∙ on) (record { other = a; positive = (on_it a other).from; differs = differs; held = held a ∙ other }))
 
     -- an interrupt line rises
     pub rise_by : v.fall ≡ false → IsBy e (MayRise boards old)
@@ -170,14 +170,14 @@ module _ (version : Version) (p : Plan) (pins : List Pin) (h : List Edge) (e : E
         access_keeps a =
             answer_covers p h e (may_be old) (may_be new) covers ok lines.0 lines.1 (has rora) is_serving
             (λ t some driver.
-              let i = interrupter_in p ok t some in
-              let here : (t == x) ≡ true = same_test t x (one_slot e.driver t who.slot driver who.driver ∙ there.0) in
-              answer_serves (may_be old t) (may_be new t) (has rora t)
-              (λ on. a.high t ∙ on)
-              (λ off on. a.pending t i.from i.near ∙ keeps_pending _ _ _ on off)
-              (λ r on. a.served t i.from i.near ∙ or_true _ _ (both _ _ on (both _ _ r here)))
-              (λ on. a.served t i.from i.near ∙ or_left _ _ on)
-              (request_of p h t) (covers t some))
+            let i = interrupter_in p ok t some in
+            let here : (t == x) ≡ true = same_test t x (one_slot e.driver t who.slot driver who.driver ∙ there.0) in
+            answer_serves (may_be old t) (may_be new t) (has rora t)
+            (λ on. a.high t ∙ on)
+            (λ off on. a.pending t i.from i.near ∙ keeps_pending _ _ _ on off)
+            (λ r on. a.served t i.from i.near ∙ or_true _ _ (both _ _ on (both _ _ r here)))
+            (λ on. a.served t i.from i.near ∙ or_left _ _ on)
+            (request_of p h t) (covers t some))
             (λ t some off q on. by_request t (interrupter_in p ok t some) (other_test t (t == x) refl off) q on)
           where
             same_test : (m n : ℕ) → m ≡ n → (m == n) ≡ true
@@ -197,13 +197,13 @@ module _ (version : Version) (p : Plan) (pins : List Pin) (h : List Edge) (e : E
         any_access_keeps a =
             answer_covers p h e (may_be old) (may_be new) covers ok lines.0 lines.1 (has rora) is_serving
             (λ t some driver.
-              let i = interrupter_in p ok t some in
-              answer_serves (may_be old t) (may_be new t) (has rora t)
-              (λ on. a.high t ∙ on)
-              (λ off on. a.pending t ∙ on)
-              (λ r on. a.served t i.from i.near ∙ or_true _ _ (both _ _ on r))
-              (λ on. a.served t i.from i.near ∙ or_left _ _ on)
-              (request_of p h t) (covers t some))
+            let i = interrupter_in p ok t some in
+            answer_serves (may_be old t) (may_be new t) (has rora t)
+            (λ on. a.high t ∙ on)
+            (λ off on. a.pending t ∙ on)
+            (λ r on. a.served t i.from i.near ∙ or_true _ _ (both _ _ on r))
+            (λ on. a.served t i.from i.near ∙ or_left _ _ on)
+            (request_of p h t) (covers t some))
             (λ t some off q on. by_request t (interrupter_in p ok t some) q on)
           where
             by_request : (t : ℕ) → InSlot t → (q : Request) → may_be old t q ≡ true → may_be new t q ≡ true
@@ -247,12 +247,12 @@ module _ (version : Version) (p : Plan) (pins : List Pin) (h : List Edge) (e : E
         acknowledge_keeps a =
             answer_covers p h e (may_be old) (may_be new) covers ok lines.0 lines.1 (has roak) is_serving_it
             (λ t some driver.
-              let same = one_slot e.driver who.slot t who.driver driver in
-              let stood : request_of p h t ≡ Pending = subst (λ x. request_of p h x ≡ Pending) same (pending_is p h who.slot n pend) in
-              let on : has answering t ≡ true = among t (same_driver e.driver t driver) in
-              let may = subst (λ q. may_be old t q ≡ true) stood (covers t some) in
-              subst (λ q. may_be new t (step Dtack true (has roak t) q) ≡ true) (sym stood)
-              (own t (interrupter_in p ok t some) on may (has roak t) refl))
+            let same = one_slot e.driver who.slot t who.driver driver in
+            let stood : request_of p h t ≡ Pending = subst (λ x. request_of p h x ≡ Pending) same (pending_is p h who.slot n pend) in
+            let on : has answering t ≡ true = among t (same_driver e.driver t driver) in
+            let may = subst (λ q. may_be old t q ≡ true) stood (covers t some) in
+            subst (λ q. may_be new t (step Dtack true (has roak t) q) ≡ true) (sym stood)
+            (own t (interrupter_in p ok t some) on may (has roak t) refl))
             (λ t some off q may. other t (interrupter_in p ok t some) off (has answering t) refl q may)
           where
             keeps : (o r : Bool) → o ≡ true → r ≡ false → (o && not r) ≡ true

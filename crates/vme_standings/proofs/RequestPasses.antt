@@ -34,24 +34,24 @@ use Rattle.vme_standings.proofs.RequestRows.{interrupts_there, on_level_is, one_
 use Rattle.vme_standings.proofs.RequestLaws.{InSlot, interrupter_in}
 
 step_stays : (w : Wire) (fall serves : Bool) (q : Request) → (w ≡ Irq → ⊥) → (w ≡ Dtack → fall ≡ false) → step w fall serves q ≡ q
-step_stays Irq true serves q no off = absurd (no refl)
-step_stays Irq false serves q no off = absurd (no refl)
-step_stays Dtack true serves q no off = absurd (never true refl (off refl))
-step_stays w fall serves q no off = refl
+step_stays Irq true serves q unlike off = absurd (unlike refl)
+step_stays Irq false serves q unlike off = absurd (unlike refl)
+step_stays Dtack true serves q unlike off = absurd (never true refl (off refl))
+step_stays w fall serves q unlike off = refl
 
 -- an edge that is of no `irq`, and no fall of a `dtack`, moves no request
 other_request : (p : Plan) (h : List Edge) (e : Edge) → (e.wire ≡ Irq → ⊥) → (e.wire ≡ Dtack → e.fall ≡ false) → (t : ℕ) → is_interrupter p t ≡ true → request_of p (e ∷ h) t ≡ request_of p h t
-other_request p h e no off t some = after p t on h e ∙ by_driver (is_same_driver e.driver (Slot t))
+other_request p h e unlike off t some = after p t on h e ∙ by_driver (is_same_driver e.driver (Slot t))
   where
     on : Interrupts p t
     on = interrupts p t some
 
     by_driver : (b : Bool) → (if b then step e.wire e.fall (serves on.interrupter.kind (shown p h)) (request_of p h t) else request_of p h t) ≡ request_of p h t
-    by_driver true = step_stays e.wire e.fall (serves on.interrupter.kind (shown p h)) (request_of p h t) no off
+    by_driver true = step_stays e.wire e.fall (serves on.interrupter.kind (shown p h)) (request_of p h t) unlike off
     by_driver false = refl
 
 pub other_keeps : (p : Plan) (h : List Edge) (e : Edge) (may : ℕ → Request → Bool) → (e.wire ≡ Irq → ⊥) → (e.wire ≡ Dtack → e.fall ≡ false) → CoversRequests p h may → CoversRequests p (e ∷ h) may
-other_keeps p h e may no off covers t some = ap (may t) (other_request p h e no off t some) ∙ covers t some
+other_keeps p h e may unlike off covers t some = ap (may t) (other_request p h e unlike off t some) ∙ covers t some
 
 -- a board that is not pending at its level
 not_pending : (level low served : Bool) → level ≡ true → not (level && low && not served) ≡ true → (request_by low served ≡ High) ⊎ (request_by low served ≡ Served)

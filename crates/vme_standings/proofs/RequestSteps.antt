@@ -195,7 +195,7 @@ module _ (version : Version) (p : Plan) (ok : IsAccepted p) (h : List Edge) (may
         → may t (step w fall (serves on.interrupter.kind (shown p h)) (request_of p h t)) ≡ true
     of_driver d w fall v same =
         subst (λ x. IsLegal version p (record { driver = x; wire = w; fall = fall; value = v } ∷ h) → LinesStay p h (record { driver = x; wire = w; fall = fall; value = v })
-          → may t (step w fall (serves on.interrupter.kind (shown p h)) (request_of p h t)) ≡ true)
+        → may t (step w fall (serves on.interrupter.kind (shown p h)) (request_of p h t)) ≡ true)
         (sym same) (own w fall v)
 
     here : (e : Edge) → IsLegal version p (e ∷ h) → LinesStay p h e → may t (request_of p (e ∷ h) t) ≡ true

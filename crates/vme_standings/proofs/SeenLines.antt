@@ -49,9 +49,9 @@ irq_stays p pins h e none n t is driver on =
     let b = on_level_is p n t on in
     line_stays p pins h e (on_line.Irq n)
     (ap (λ w. line_of w (board_of p e.driver)) is
-      ∙ ap (λ d. line_of wire.Irq (board_of p d)) (same_driver e.driver t driver)
-      ∙ ap (λ (o : Option Row). line_of wire.Irq o) b.found
-      ∙ irq_of b.row.interrupter n b.on)
+    ∙ ap (λ d. line_of wire.Irq (board_of p d)) (same_driver e.driver t driver)
+    ∙ ap (λ (o : Option Row). line_of wire.Irq o) b.found
+    ∙ irq_of b.row.interrupter n b.on)
     none
 
 pub dtack_stays : (p : Plan) (pins : List Pin) (h : List Edge) (e : Edge) → seen p pins h e ≡ None → DtackStays p h e

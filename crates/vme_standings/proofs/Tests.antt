@@ -40,6 +40,9 @@ and_not_false a b e = grind arith
 pub and_false : (a b : Bool) → a ≡ false → (a && b) ≡ false
 and_false a b e = grind arith
 
+pub and_false_right : (a b : Bool) → b ≡ false → (a && b) ≡ false
+and_false_right a b e = grind arith
+
 pub and_true : (a b : Bool) → a ≡ true → (a && b) ≡ b
 and_true a b e = grind arith
 

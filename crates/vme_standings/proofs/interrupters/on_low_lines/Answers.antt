@@ -12,14 +12,14 @@ use Rattle.vme_standings.proofs.interrupters.on_low_lines.Goals.{then-is_on_low_
 pub loop-slot-preserved : goal.loop-slot-preserved
 loop-slot-preserved c =
     λ s. elim c.if-is_on_low_line.branch [
-      then-is_on_low_line w ↦
-        ap (λ (x : SlotSet). has x s) w.slots-is
-        ∙ one_more (is_on_low_line c.args.lines.now c.args.plan.now) (has c.loop-slot.slots) (has w.with-slots.result) c.loop-slot.slot c.loop-slot.invariant
-        (sym c.is_on_low_line.ensures ∙ w.if-is_on_low_line.true) w.with-slots.ensures.same w.with-slots.ensures.others s
+      | then-is_on_low_line w ↦
+          ap (λ (x : SlotSet). has x s) w.slots-is
+          ∙ one_more (is_on_low_line c.args.lines.now c.args.plan.now) (has c.loop-slot.slots) (has w.with-slots.result) c.loop-slot.slot c.loop-slot.invariant
+          (sym c.is_on_low_line.ensures ∙ w.if-is_on_low_line.true) w.with-slots.ensures.same w.with-slots.ensures.others s
       | else-is_on_low_line w ↦
-        ap (λ (x : SlotSet). has x s) w.slots-is
-        ∙ none_more (is_on_low_line c.args.lines.now c.args.plan.now) (has c.loop-slot.slots) c.loop-slot.slot c.loop-slot.invariant
-        (sym c.is_on_low_line.ensures ∙ w.if-is_on_low_line.false) s
+          ap (λ (x : SlotSet). has x s) w.slots-is
+          ∙ none_more (is_on_low_line c.args.lines.now c.args.plan.now) (has c.loop-slot.slots) c.loop-slot.slot c.loop-slot.invariant
+          (sym c.is_on_low_line.ensures ∙ w.if-is_on_low_line.false) s
     ]
 
 pub returns : goal.returns

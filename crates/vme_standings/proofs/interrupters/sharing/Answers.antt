@@ -19,10 +19,10 @@ one_of false a o is e f g = g (second a o is e)
 pub loop-level-preserved : goal.loop-level-preserved
 loop-level-preserved c = record {
   all = below_more _ _
-      (λ n l s t on also differs. c.or.ensures s ∙ or_left _ _ (c.loop-level.invariant.all n l s t on also differs))
-      (λ s t on also differs. c.or.ensures s ∙ or_true _ _ (c.sharing_on.ensures.all s t on also differs));
+      (λ n l s t on also differs. c.or-shared.ensures s ∙ or_left _ _ (c.loop-level.invariant.all n l s t on also differs))
+      (λ s t on also differs. c.or-shared.ensures s ∙ or_true _ _ (c.sharing_on.ensures.all s t on also differs));
   others = λ s held.
-      one_of {X = SharesLine c.args.plan.now s} (has c.loop-level.shared s) (has c.loop-level.shared s) (has c.sharing_on.result s) refl (sym (c.or.ensures s) ∙ held)
+      one_of {X = SharesLine c.args.plan.now s} (has c.loop-level.shared s) (has c.loop-level.shared s) (has c.sharing_on.result s) refl (sym (c.or-shared.ensures s) ∙ held)
       (c.loop-level.invariant.others s)
       (λ on. record { level = c.loop-level.level; shares = c.sharing_on.ensures.others s on });
 }

@@ -12,14 +12,14 @@ use Rattle.vme_standings.proofs.interrupters.Interrupters.slots.Goals.{then-has_
 pub loop-slot-preserved : goal.loop-slot-preserved
 loop-slot-preserved c =
     λ s. elim c.if-has_at.branch [
-      then-has_at w ↦
-        ap (λ (x : SlotSet). has x s) w.slots-is
-        ∙ one_more (is_meant_at c.args.self c.args.plan.now) (has c.loop-slot.slots) (has w.with-slots.result) c.loop-slot.slot c.loop-slot.invariant
-        (sym c.has_at.ensures ∙ w.if-has_at.true) w.with-slots.ensures.same w.with-slots.ensures.others s
+      | then-has_at w ↦
+          ap (λ (x : SlotSet). has x s) w.slots-is
+          ∙ one_more (is_meant_at c.args.self c.args.plan.now) (has c.loop-slot.slots) (has w.with-slots.result) c.loop-slot.slot c.loop-slot.invariant
+          (sym c.has_at.ensures ∙ w.if-has_at.true) w.with-slots.ensures.same w.with-slots.ensures.others s
       | else-has_at w ↦
-        ap (λ (x : SlotSet). has x s) w.slots-is
-        ∙ none_more (is_meant_at c.args.self c.args.plan.now) (has c.loop-slot.slots) c.loop-slot.slot c.loop-slot.invariant
-        (sym c.has_at.ensures ∙ w.if-has_at.false) s
+          ap (λ (x : SlotSet). has x s) w.slots-is
+          ∙ none_more (is_meant_at c.args.self c.args.plan.now) (has c.loop-slot.slots) c.loop-slot.slot c.loop-slot.invariant
+          (sym c.has_at.ensures ∙ w.if-has_at.false) s
     ]
 
 pub returns : goal.returns

@@ -46,15 +46,17 @@ returns c = record {
   several = λ s from near on other.
       let a = c.except-alone.ensures.within s near in
       let b = c.both-served.ensures.within s near in
-      let more = c.several.ensures.several s from near on other in
-      (high_several _ _ _ _ _ a b _ _ (c.except.ensures.within s near) more,
+      let more = c.several.ensures.several s from near on other in (
+        high_several _ _ _ _ _ a b _ _ (c.except.ensures.within s near) more,
         pending_several _ _ _ _ _ a b _ _ _ (c.except-2.ensures.within s near) (c.both.ensures.within s near) more,
-        served_several _ _ _ _ _ a b _ _ _ _ (c.or.ensures s) (c.except-4.ensures.within s near) (c.except-3.ensures.within s near) on more);
+        served_several _ _ _ _ _ a b _ _ _ _ (c.or.ensures s) (c.except-4.ensures.within s near) (c.except-3.ensures.within s near) on more,
+      );
   alone = λ s from near on none.
       let a = c.except-alone.ensures.within s near in
       let b = c.both-served.ensures.within s near in
-      let less = is_false (has c.several.result s) (λ v. none (c.several.ensures.other s from near v)) in
-      (high_alone _ _ _ _ _ a b _ _ (c.except.ensures.within s near) on less,
+      let less = is_false (has c.several.result s) (λ v. none (c.several.ensures.other s from near v)) in (
+        high_alone _ _ _ _ _ a b _ _ (c.except.ensures.within s near) on less,
         pending_alone _ _ _ _ _ a b _ _ _ (c.except-2.ensures.within s near) (c.both.ensures.within s near) on less,
-        served_alone _ _ _ _ _ a b _ _ _ _ (c.or.ensures s) (c.except-4.ensures.within s near) (c.except-3.ensures.within s near) on less);
+        served_alone _ _ _ _ _ a b _ _ _ _ (c.or.ensures s) (c.except-4.ensures.within s near) (c.except-3.ensures.within s near) on less,
+      );
 }
