@@ -1,10 +1,9 @@
 -- Who drives a line that one board drives at a time, AS* or DTACK*, by what the probes see of it.
 use Rattle.std.proofs.Common.{◌≡◌, ◌∙◌, refl, sym, ap, subst, ℕ, Bool, true, false, List, [], ◌∷◌}
-use Rattle.std.specs.Prelude.{◌==◌, ◌&&◌, not, if◌then◌else◌, Option, Some, None}
+use Rattle.std.specs.Prelude.{not, if◌then◌else◌, Option, Some, None}
 use Rattle.std.specs.Option.{option_map_or}
 use Rattle.vme_model.specs.declared.boards.Row.{Row}
 use Rattle.vme_model.specs.declared.signals.Version.{Version}
-use Rattle.vme_model.specs.declared.signals.Driver.{Driver}
 use Rattle.vme_model.specs.declared.signals.Driver.TheVariants.{Controller, Slot}
 use Rattle.vme_model.specs.declared.signals.Wire.{Wire}
 use Rattle.vme_model.specs.declared.signals.Wire.TheVariants.{Berr, Bbsy, Addr, AddressStrobe, DataStrobe, Dtack}
@@ -25,7 +24,6 @@ use Rattle.vme_histories.proofs.Others.{same_wire}
 use Rattle.vme_histories.proofs.Drivers.{never_drove}
 use Rattle.vme_bus.specs.declared.sets.SlotSet.{SlotSet}
 use Rattle.vme_bus.specs.Sets.{has}
-use Rattle.vme_captures.specs.declared.signals.Line.{Line}
 use Rattle.vme_captures.specs.declared.signals.Line.TheVariants as on_line
 use Rattle.vme_captures.specs.declared.signals.Pin.{Pin}
 use Rattle.vme_captures.specs.Changes.{differ, line_of, seen}
@@ -34,7 +32,7 @@ use Rattle.vme_standings.specs.Requests.{IsBy}
 use Rattle.vme_standings.proofs.Tests.{both, never}
 use Rattle.vme_standings.proofs.RequestSteps.{answers_alone, same_driver}
 use Rattle.vme_standings.proofs.RequestRows.{passed_as}
-use Rattle.vme_standings.proofs.RequestLaws.{InSlot, in_slot, is_by}
+use Rattle.vme_standings.proofs.RequestLaws.{in_slot, is_by}
 use Rattle.vme_standings.proofs.SeenLines.{line_stays}
 
 -- a low wire of a board shows on its line

@@ -1,6 +1,6 @@
 -- The laws of the interrupt requests, from what edges do to them and what the lines show.
-use Rattle.std.proofs.Common.{◌≡◌, ◌≢◌, ◌⊎◌, ◌∙◌, refl, sym, ap, subst, ℕ, Bool, true, false, List, ◌∷◌, ◌<◌, ◌≤◌, arith, ⊎_elim}
-use Rattle.std.specs.Prelude.{◌==◌, ◌&&◌, ◌||◌, not, if◌then◌else◌, is_some, Option, Some, None}
+use Rattle.std.proofs.Common.{◌≡◌, ◌∙◌, refl, sym, ap, subst, ℕ, Bool, true, false, List, ◌∷◌, ◌<◌, ◌≤◌, arith, ⊎_elim}
+use Rattle.std.specs.Prelude.{◌==◌, ◌&&◌, not, Option, Some, None}
 use Rattle.std.specs.Option.{option_map_or, option_and_then}
 use Rattle.std.proofs.lemmas.Bool.Decides.{nat_tests}
 use Rattle.vme_model.specs.declared.boards.Row.{Row}
@@ -16,7 +16,7 @@ use Rattle.vme_model.specs.Signals.{is_same_driver}
 use Rattle.vme_model.specs.Plan.{Plan, board, interrupts_on}
 use Rattle.vme_model.specs.Accepted.{IsAccepted}
 use Rattle.vme_model.specs.CycleSafety.{is_roak}
-use Rattle.vme_model.specs.History.{drive, interrupt_line, line, serves, shown}
+use Rattle.vme_model.specs.History.{drive, line, serves, shown}
 use Rattle.vme_model.specs.Readings.{is_pending, readings}
 use Rattle.vme_model.specs.Verdict.{IsLegal}
 use Rattle.vme_model.proofs.Bools.{and_left, same_number}
@@ -37,8 +37,8 @@ use Rattle.vme_standings.specs.Requests.{request_of, is_interrupter, is_on_level
 use Rattle.vme_standings.specs.RequestSets.{may_be, MovesUnseen, Falls, Rises, MayRise, Accessed, AnyAccessed, Acknowledged}
 use Rattle.vme_standings.specs.Slots.{HasOther}
 use Rattle.vme_standings.proofs.Tests.{never, both, or_left, or_true}
-use Rattle.vme_standings.proofs.RequestSteps.{step, Interrupts, interrupts, same_driver}
-use Rattle.vme_standings.proofs.RequestRows.{Anybody, IsOn, MovedBy, irq_fell, irq_rose, dtack_fell, fall_covers, rise_covers, riser_served, others_high, answer_serves, answer_covers, accessed_slot, acknowledged_pending, pending_is, interrupts_there, one_slot}
+use Rattle.vme_standings.proofs.RequestSteps.{step, interrupts, same_driver}
+use Rattle.vme_standings.proofs.RequestRows.{Anybody, MovedBy, irq_fell, irq_rose, dtack_fell, fall_covers, rise_covers, riser_served, others_high, answer_serves, answer_covers, accessed_slot, acknowledged_pending, pending_is, interrupts_there, one_slot}
 use Rattle.vme_standings.proofs.SeenLines.{irq_falls, irq_rises, dtack_falls}
 
 -- a board with an interrupter stands in a slot of the backplane

@@ -1,8 +1,7 @@
 -- What the requests are covered by behind an edge that moves none of them, and behind one by which a board passes an acknowledge on.
-use Rattle.std.proofs.Common.{◌≡◌, ◌≢◌, ◌⊎◌, ◌∙◌, refl, sym, ap, subst, ℕ, Bool, true, false, List, ◌∷◌, ◌<◌, arith, inl, inr, ⊎_elim}
-use Rattle.std.specs.Prelude.{◌==◌, ◌&&◌, ◌||◌, not, if◌then◌else◌, Option, Some, None}
+use Rattle.std.proofs.Common.{◌≡◌, ◌⊎◌, ◌∙◌, refl, sym, ap, subst, ℕ, Bool, true, false, List, ◌∷◌, ◌<◌, arith, inl, inr, ⊎_elim}
+use Rattle.std.specs.Prelude.{◌==◌, ◌&&◌, ◌||◌, not, if◌then◌else◌, Option, Some}
 use Rattle.std.specs.Option.{option_map_or, option_and_then}
-use Rattle.std.proofs.lemmas.Bool.Decides.{nat_tests}
 use Rattle.vme_model.specs.declared.boards.Row.{Row}
 use Rattle.vme_model.specs.declared.signals.Version.{Version}
 use Rattle.vme_model.specs.declared.signals.Driver.TheVariants.{Slot}
@@ -15,7 +14,7 @@ use Rattle.vme_model.specs.Plan.{Plan, board, interrupts_on}
 use Rattle.vme_model.specs.Accepted.{IsAccepted}
 use Rattle.vme_model.specs.Guards.{holds}
 use Rattle.vme_model.specs.History.{drive, interrupt_line, pulls_interrupt, serves, shown}
-use Rattle.vme_model.specs.Readings.{is_pending, is_served, readings}
+use Rattle.vme_model.specs.Readings.{is_served, readings}
 use Rattle.vme_model.specs.Rules.{pass_guard}
 use Rattle.vme_model.specs.Verdict.{IsLegal}
 use Rattle.vme_model.proofs.Bools.{and_left, and_right, same_number}
@@ -28,9 +27,9 @@ use Rattle.vme_standings.specs.declared.requests.Request.TheVariants.{High, Pend
 use Rattle.vme_standings.specs.declared.requests.Requests.{Requests}
 use Rattle.vme_standings.specs.Requests.{request_by, request_of, is_interrupter, is_on_level, AreOnLevel, CoversRequests}
 use Rattle.vme_standings.specs.RequestSets.{may_be, pulls_without, Passes, CannotPass}
-use Rattle.vme_standings.proofs.Tests.{never, both, or_left, or_true}
-use Rattle.vme_standings.proofs.RequestSteps.{step, Interrupts, interrupts, after, same_driver}
-use Rattle.vme_standings.proofs.RequestRows.{interrupts_there, on_level_is, one_slot, passed_as}
+use Rattle.vme_standings.proofs.Tests.{never, or_left, or_true}
+use Rattle.vme_standings.proofs.RequestSteps.{step, Interrupts, interrupts, after}
+use Rattle.vme_standings.proofs.RequestRows.{interrupts_there, on_level_is, passed_as}
 use Rattle.vme_standings.proofs.RequestLaws.{InSlot, interrupter_in}
 
 step_stays : (w : Wire) (fall serves : Bool) (q : Request) → (w ≡ Irq → ⊥) → (w ≡ Dtack → fall ≡ false) → step w fall serves q ≡ q

@@ -1,34 +1,33 @@
 -- What the requests are covered by behind an edge that the interrupt lines or DTACK* show.
 use Rattle.std.proofs.Common.{◌≡◌, ◌≢◌, ◌∙◌, refl, sym, ap, subst, ℕ, Bool, true, false, List, ◌∷◌, ◌<◌, ◌≤◌, arith}
-use Rattle.std.specs.Prelude.{◌==◌, ◌&&◌, ◌||◌, not, if◌then◌else◌, is_some, Option, Some, None}
+use Rattle.std.specs.Prelude.{◌==◌, ◌&&◌, not, if◌then◌else◌, is_some, Option, Some, None}
 use Rattle.std.specs.Option.{option_map_or, IfSome}
 use Rattle.std.proofs.lemmas.Bool.Decides.{nat_tests}
 use Rattle.vme_model.specs.declared.boards.Row.{Row}
 use Rattle.vme_model.specs.declared.boards.InterrupterRow.{InterrupterRow}
 use Rattle.vme_model.specs.declared.signals.Version.{Version}
 use Rattle.vme_model.specs.declared.signals.Driver.{Driver}
-use Rattle.vme_model.specs.declared.signals.Driver.TheVariants.{Controller, Slot}
+use Rattle.vme_model.specs.declared.signals.Driver.TheVariants.{Slot}
 use Rattle.vme_model.specs.declared.signals.Wire.{Wire}
-use Rattle.vme_model.specs.declared.signals.Wire.TheVariants.{Irq, Dtack, IackOut}
-use Rattle.vme_model.specs.declared.signals.Cycle.{Cycle}
+use Rattle.vme_model.specs.declared.signals.Wire.TheVariants.{Irq, Dtack}
 use Rattle.vme_model.specs.declared.signals.Cycle.TheVariants.{Acknowledge, Access}
 use Rattle.vme_model.specs.declared.signals.Edge.{Edge}
 use Rattle.vme_model.specs.Signals.{is_same_driver, is_same_wire, is_edge_of, is_level}
-use Rattle.vme_model.specs.Plan.{Plan, board, drives, interrupts_on}
+use Rattle.vme_model.specs.Plan.{Plan, board, interrupts_on}
 use Rattle.vme_model.specs.Accepted.{IsAccepted}
-use Rattle.vme_model.specs.History.{drive, line, interrupt_line, pulls_line, pulls_interrupt, served_since_request, serves, shown}
+use Rattle.vme_model.specs.History.{drive, line, interrupt_line, pulls_line, pulls_interrupt, serves, shown}
 use Rattle.vme_model.specs.Guards.{holds}
 use Rattle.vme_model.specs.Readings.{is_served, is_pending, readings}
-use Rattle.vme_model.specs.Rules.{answer_guard, pass_guard}
+use Rattle.vme_model.specs.Rules.{answer_guard}
 use Rattle.vme_model.specs.Verdict.{IsLegal}
-use Rattle.vme_model.proofs.Bools.{and_left, and_right, is_false, is_true, never, not_true, same_number}
+use Rattle.vme_model.proofs.Bools.{and_left, and_right, is_false, never, not_true, same_number}
 use Rattle.vme_model.proofs.AllowedEdges.{Passed, all_passed}
 use Rattle.vme_model.proofs.Members.{found_row, some_row}
 use Rattle.vme_model.proofs.Ranges.{IsRowInRange, in_range}
 use Rattle.vme_standings.specs.declared.requests.Request.{Request}
 use Rattle.vme_standings.specs.declared.requests.Request.TheVariants.{High, Pending, Served}
-use Rattle.vme_standings.specs.Requests.{request_by, request_of, is_interrupter, is_on_level, CoversRequests, HasHidden}
-use Rattle.vme_standings.proofs.RequestSteps.{step, Interrupts, interrupts, after, same_driver}
+use Rattle.vme_standings.specs.Requests.{request_by, request_of, is_interrupter, is_on_level, CoversRequests}
+use Rattle.vme_standings.proofs.RequestSteps.{step, interrupts, after, same_driver}
 use Rattle.vme_histories.proofs.Others.{same_wire}
 use Rattle.vme_histories.proofs.AllowedBoards.{stands}
 

@@ -1,13 +1,11 @@
 -- What a line is before and behind an edge, by what the probes see of it.
-use Rattle.std.proofs.Common.{◌≡◌, ◌∙◌, refl, sym, ap, subst, ℕ, Bool, true, false, List, ◌∷◌, arith}
+use Rattle.std.proofs.Common.{◌≡◌, ◌∙◌, refl, sym, ap, subst, ℕ, Bool, true, false, List, ◌∷◌}
 use Rattle.std.specs.Prelude.{◌==◌, if◌then◌else◌, Option, Some, None, option_map}
 use Rattle.std.specs.Option.{option_map_or, option_and_then}
 use Rattle.vme_model.specs.declared.boards.Row.{Row}
 use Rattle.vme_model.specs.declared.boards.InterrupterRow.{InterrupterRow}
-use Rattle.vme_model.specs.declared.signals.Driver.TheVariants.{Slot}
 use Rattle.vme_model.specs.declared.signals.Wire.TheVariants as wire
 use Rattle.vme_model.specs.declared.signals.Edge.{Edge}
-use Rattle.vme_model.specs.Signals.{is_same_driver}
 use Rattle.vme_model.specs.Plan.{Plan, board_of}
 use Rattle.vme_model.specs.Accepted.{IsAccepted}
 use Rattle.vme_model.specs.History.{line, interrupt_line}
@@ -19,7 +17,6 @@ use Rattle.vme_captures.specs.declared.signals.Pin.{Pin}
 use Rattle.vme_captures.specs.declared.signals.Signal.{Signal}
 use Rattle.vme_captures.specs.declared.signals.Signal.TheVariants as signal
 use Rattle.vme_captures.specs.Changes.{change_of, differ, is_line_low, is_low, line_of, seen, segment_of, signal_of, signal_on, value_at}
-use Rattle.vme_standings.specs.Requests.{is_on_level}
 use Rattle.vme_standings.proofs.RequestSteps.{IrqStays, DtackStays, same_driver}
 use Rattle.vme_standings.proofs.RequestRows.{on_level_is, irq_fell, irq_rose, dtack_rose}
 

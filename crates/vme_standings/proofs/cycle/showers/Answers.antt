@@ -18,16 +18,16 @@ pub loop-slot-preserved : goal.loop-slot-preserved
 loop-slot-preserved c =
     let f = λ (s : ℕ). may_show_at c.args.cycle c.args.plan.now s && has c.args.holders s in
     λ s. elim c.if-may_show_at.branch [
-      then-may_show_at+then-has w ↦
-        ap (λ (x : SlotSet). has x s) w.slots-is
-        ∙ one_more f (has c.loop-slot.slots) (has w.with-slots.result) c.loop-slot.slot c.loop-slot.invariant
-        (both _ _ (sym c.may_show_at.ensures ∙ w.if-may_show_at.true) (sym w.has.ensures ∙ w.if-has.true)) w.with-slots.ensures.same w.with-slots.ensures.others s
+      | then-may_show_at+then-has w ↦
+          ap (λ (x : SlotSet). has x s) w.slots-is
+          ∙ one_more f (has c.loop-slot.slots) (has w.with-slots.result) c.loop-slot.slot c.loop-slot.invariant
+          (both _ _ (sym c.may_show_at.ensures ∙ w.if-may_show_at.true) (sym w.has.ensures ∙ w.if-has.true)) w.with-slots.ensures.same w.with-slots.ensures.others s
       | else-may_show_at w ↦
-        let off : f c.loop-slot.slot ≡ false = elim w.else-may_show_at.branch [
-          else-may_show_at-via-then-may_show_at+else-has x ↦ and_false_right _ _ (sym x.has.ensures ∙ x.if-has.false)
-          | else-may_show_at-via-else-may_show_at x ↦ and_false _ _ (sym c.may_show_at.ensures ∙ x.if-may_show_at.false)
-        ] in
-        ap (λ (x : SlotSet). has x s) w.slots-is ∙ none_more f (has c.loop-slot.slots) c.loop-slot.slot c.loop-slot.invariant off s
+          let off : f c.loop-slot.slot ≡ false = elim w.else-may_show_at.branch [
+            | else-may_show_at-via-then-may_show_at+else-has x ↦ and_false_right _ _ (sym x.has.ensures ∙ x.if-has.false)
+            | else-may_show_at-via-else-may_show_at x ↦ and_false _ _ (sym c.may_show_at.ensures ∙ x.if-may_show_at.false)
+          ] in
+          ap (λ (x : SlotSet). has x s) w.slots-is ∙ none_more f (has c.loop-slot.slots) c.loop-slot.slot c.loop-slot.invariant off s
     ]
 
 pub returns : goal.returns

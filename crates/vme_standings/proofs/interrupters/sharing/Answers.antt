@@ -1,9 +1,8 @@
-use Rattle.std.proofs.Common.{◌≡◌, ◌≢◌, ◌∙◌, ◌<◌, ◌≤◌, ℕ, Bool, true, false, refl, sym, arith, below_more}
+use Rattle.std.proofs.Common.{◌≡◌, ◌∙◌, ◌<◌, Bool, true, false, refl, sym, arith, below_more}
 use Rattle.std.proofs.lemmas.Bool.Decides.{nat_tests}
 use Rattle.std.specs.Prelude.{◌||◌}
 use Rattle.vme_bus.specs.Sets.{has}
 use Rattle.vme_standings.specs.Interrupters.{SharesLine}
-use Rattle.vme_standings.specs.Requests.{is_on_level}
 use Rattle.vme_standings.proofs.Tests.{or_left, or_true}
 use Rattle.vme_standings.proofs.RequestRows.{level_near}
 use Rattle.vme_standings.proofs.interrupters.sharing.Goals as goal

@@ -1,4 +1,4 @@
-use Rattle.std.proofs.Common.{◌≡◌, ◌∙◌, sym, ap, Bool, true, false, arith}
+use Rattle.std.proofs.Common.{◌≡◌, Bool, true, false, arith}
 use Rattle.std.specs.Prelude.{◌&&◌, ◌||◌, not}
 use Rattle.vme_bus.specs.Sets.{has}
 use Rattle.vme_standings.proofs.Tests.{by_test, is_false, same_states}

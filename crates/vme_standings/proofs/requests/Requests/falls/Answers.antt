@@ -1,5 +1,4 @@
-use Rattle.std.proofs.Common.{◌≡◌, ◌∙◌, sym, ap, Bool, true, false}
-use Rattle.std.specs.Prelude.{◌&&◌, ◌||◌, not}
+use Rattle.std.proofs.Common.{◌≡◌, ◌∙◌, Bool, true, false}
 use Rattle.vme_bus.specs.Sets.{has}
 use Rattle.vme_standings.proofs.Tests.{is_false, or_true, or_false, and_not_true, and_not_false, what_is_new, same_states}
 use Rattle.vme_standings.proofs.requests.Requests.falls.Goals as goal
