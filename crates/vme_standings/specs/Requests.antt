@@ -53,15 +53,16 @@ pub record IsBy (e : Edge) (P : ℕ → Type 0) : Type 0 where
   pub driver : e.driver ≡ Slot slot
   pub fact : P slot
 
--- a set holds the boards with an interrupter whose line is low, and of those that share a line at
--- least each; a set holds the boards on the line of a level
+-- the set says of each board with an interrupter whether its line is low
 abbrev pub AreLow : Plan → List Edge → SlotSet → Type 0
 AreLow p h low = (n s : ℕ) → is_on_level p n s ≡ true → has low s ≡ interrupt_line p h n
 
+-- the set holds each board that shares its line with another
 abbrev pub AreShared : Plan → SlotSet → Type 0
 AreShared p shared =
     (n s t : ℕ) → is_on_level p n s ≡ true → is_on_level p n t ≡ true → t ≢ s → has shared s ≡ true
 
+-- the set holds exactly the boards on the line of the level
 abbrev pub AreOnLevel : Plan → ℕ → SlotSet → Type 0
 AreOnLevel p n boards = (s : ℕ) → has boards s ≡ is_on_level p n s
 

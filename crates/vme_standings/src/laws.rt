@@ -1,7 +1,7 @@
 //! What holds of every bus that keeps the rules, and of what is known of it.
 //!
-//! These functions do nothing. Each is a theorem, which its contract states. `old` are the interrupt
-//! requests as they are known before an edge, and `new` those behind it.
+//! These functions do nothing. Each is a theorem, which its contract states. `old` is what is known
+//! before an edge, and `new` what is known behind it.
 ghost use Rattle.std.specs.Prelude.{◌≡◌, ◌≢◌, ◌∷◌, ℕ, Bool, true, false, Some, None, List};
 ghost use Rattle.vme_bus.specs.Sets.{has};
 ghost use Rattle.vme_bus.specs.declared.sets.SlotSet.{SlotSet};
