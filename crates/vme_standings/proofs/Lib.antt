@@ -14,3 +14,5 @@ pub mod RequestLaws
 pub mod RequestPasses
 -- who drives AS* and DTACK*
 pub mod Drivers
+-- one slot more in the walk along the acknowledge chain: `Fronts::with_hidden`
+pub mod Walks

@@ -11,3 +11,5 @@ pub mod Interrupters
 pub mod Slots
 -- words: what the calls of `Requests` do to the sets
 pub mod RequestSets
+-- words: where the low segments of the acknowledge chain may end, and what the calls of `Fronts` do
+pub mod Fronts

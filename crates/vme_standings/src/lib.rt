@@ -5,11 +5,13 @@
 #![tactic(auto)]
 
 mod cycle;
+mod fronts;
 mod interrupters;
 pub mod laws;
 mod requests;
 mod sets;
 
 pub use cycle::showers;
+pub use fronts::Fronts;
 pub use interrupters::{Interrupters, on_low_lines, sharing};
 pub use requests::{Request, Requests};
