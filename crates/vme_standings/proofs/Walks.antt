@@ -11,14 +11,14 @@ use Rattle.vme_standings.proofs.Tests.{or_true, or_false}
 -- what is found passes the test
 found : (f : ℕ → Bool) (xs : List ℕ) (t : ℕ) → find f xs ≡ Some t → f t ≡ true
 found f [] t is = absurd (cc)
-found f (x ∷ xs) t is = by_test (f x) refl is
+found f (x ∷ xs) t is = by_test (f x) refl is (found f xs t)
   where
     same : (a b : ℕ) → Some a ≡ Some b → a ≡ b
     same a b e = cc
 
-    by_test : (b : Bool) → f x ≡ b → (if b then Some x else find f xs) ≡ Some t → f t ≡ true
-    by_test true on h = subst (λ y. f y ≡ true) (same x t h) on
-    by_test false off h = found f xs t h
+    by_test : (b : Bool) → f x ≡ b → (if b then Some x else find f xs) ≡ Some t → (find f xs ≡ Some t → f t ≡ true) → f t ≡ true
+    by_test true on h next = subst (λ y. f y ≡ true) (same x t h) on
+    by_test false off h next = next h
 
 -- a slot's input comes from below
 pub from_below : (p : Plan) (s : ℕ) → 0 < s → input_place p s < s
