@@ -10,9 +10,9 @@ use Rattle.vme_standings.proofs.fronts.Fronts.with_hidden.Goals.{then-may_move, 
 
 pub loop-slot-init : goal.loop-slot-init
 loop-slot-init c = record {
-  head = c.ends_behind_head.ensures.head;
+  head = c.ends_behind_head-ends.ensures.head;
   below = λ s from near. absurd (omega arith);
-  above = λ s from far. c.ends_behind_head.ensures.others s from;
+  above = λ s from far. c.ends_behind_head-ends.ensures.others s from;
 }
 
 pub loop-slot-preserved : goal.loop-slot-preserved
