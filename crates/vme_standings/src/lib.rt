@@ -1,12 +1,21 @@
-//! The record of what can be known of a bus by the changes of a capture: how the bus may stand
-//! behind what the probes saw, and who may have made the next change.
+//! What can be known of a bus by the changes that an analyser saw: of each part of the bus the set
+//! of the ways in which it may stand, and who may have made each change.
 //!
-//! A record holds a set of ways in which the bus may stand, by parts: each part is a set of its
-//! own, and all combinations count.
+//! All combinations of these sets count. A set may hold a way too many, and never one too few.
 #![tactic(auto)]
 
 pub mod chains;
+mod cycle;
+mod fronts;
 pub mod grants;
+mod interrupters;
+pub mod laws;
 mod phases;
+mod requests;
+mod sets;
 
+pub use cycle::showers;
+pub use fronts::Fronts;
+pub use interrupters::{Interrupters, on_low_lines, sharing};
 pub use phases::{GrantPhase, GrantPhases};
+pub use requests::{Request, Requests};

@@ -74,7 +74,7 @@ impl GrantPhases {
 
     /// The last low segments of the grants of a level that are under way. There are none for any
     /// level above 3.
-    pub fn granting_row(&self, level: u8) -> SlotSet
+    pub(crate) fn granting_row(&self, level: u8) -> SlotSet
         ensures { result ≡ granting_row self.now level }
     {
         self.granting
@@ -85,7 +85,7 @@ impl GrantPhases {
 
     /// The first low segments while the board of a slot holds the bus. There are none for any slot
     /// above 21.
-    pub fn held_row(&self, board: u8) -> SlotSet
+    pub(crate) fn held_row(&self, board: u8) -> SlotSet
         ensures { result ≡ held_row self.now board }
     {
         self.held
@@ -96,7 +96,7 @@ impl GrantPhases {
 
     /// The first low segments of the grants of a level that nobody took. There are none for any
     /// level above 3.
-    pub fn expired_row(&self, level: u8) -> SlotSet
+    pub(crate) fn expired_row(&self, level: u8) -> SlotSet
         ensures { result ≡ expired_row self.now level }
     {
         self.expired
