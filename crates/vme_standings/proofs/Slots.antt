@@ -1,5 +1,5 @@
 -- Which slots work a grant chain, and in which order.
-use Rattle.std.proofs.Common.{◌≡◌, ◌∙◌, ℕ, zero, suc, Bool, true, false, List, [], ◌∷◌, Option, Some, None, ◌<◌, ◌≤◌, refl, sym, ap, arith}
+use Rattle.std.proofs.Common.{◌≡◌, ◌∙◌, ℕ, Bool, true, false, List, [], ◌∷◌, Option, Some, None, ◌<◌, ◌≤◌, refl, sym, ap, arith}
 use Rattle.std.specs.Prelude.{◌&&◌, ◌==◌, nat_lt, find, reverse, unwrap_or, if◌then◌else◌}
 use Rattle.std.proofs.lemmas.Bool.Decides.{nat_tests}
 use Rattle.std.specs.Option.{option_map_or, option_and_then}

@@ -1,11 +1,10 @@
-use Rattle.std.proofs.Common.{◌≡◌, ◌∙◌, ◌<◌, ℕ, true, false, sym, ap, arith}
-use Rattle.std.specs.Prelude.{◌&&◌, ◌==◌}
-use Rattle.std.proofs.lemmas.Bool.Decides.{nat_tests}
+use Rattle.std.proofs.Common.{◌≡◌, ◌∙◌, true, false, sym}
+use Rattle.std.specs.Prelude.{◌==◌}
 use Rattle.vme_bus.specs.Sets.{has}
 use Rattle.vme_model.proofs.Bools.{and_left, and_right}
 use Rattle.vme_standings.specs.declared.phases.GrantPhase.{GrantPhase}
 use Rattle.vme_standings.specs.GrantChains.{is_of_level}
-use Rattle.vme_standings.specs.Phases.{has_phase, is_held_by, is_in_table}
+use Rattle.vme_standings.specs.Phases.{has_phase, is_held_by}
 use Rattle.vme_standings.proofs.Growing.{grow_some, grow_all, both}
 use Rattle.vme_standings.proofs.grants.askers.Goals as goal
 

@@ -1,6 +1,6 @@
-use Rattle.std.proofs.Common.{◌≡◌, ◌∙◌, false, ap, arith}
+use Rattle.std.proofs.Common.{◌≡◌, ◌∙◌, ap, arith}
 use Rattle.std.proofs.lemmas.Bool.Decides.{nat_tests}
-use Rattle.std.specs.Prelude.{◌&&◌, ◌==◌, not, nat_lt}
+use Rattle.std.specs.Prelude.{◌&&◌, not, nat_lt}
 use Rattle.vme_bus.specs.Sets.{has}
 use Rattle.vme_model.specs.Rules.{is_pri}
 use Rattle.vme_standings.specs.Grants.{are_alike, is_outranked}

@@ -1,5 +1,4 @@
-use Rattle.std.proofs.Common.{false}
-use Rattle.std.specs.Prelude.{◌&&◌, ◌==◌, not, nat_lt}
+use Rattle.std.specs.Prelude.{◌&&◌, not, nat_lt}
 use Rattle.vme_bus.specs.Sets.{has}
 use Rattle.vme_model.specs.Rules.{is_pri}
 use Rattle.vme_standings.specs.Grants.{are_alike, is_outranked}

@@ -1,4 +1,4 @@
-use Rattle.std.proofs.Common.{◌≡◌, ◌∙◌, sym}
+use Rattle.std.proofs.Common.{◌∙◌, sym}
 use Rattle.std.specs.Prelude.{◌==◌}
 use Rattle.vme_standings.specs.Grants.{is_granted}
 use Rattle.vme_standings.proofs.Rows.{granting_added, granting_only}

@@ -1,4 +1,4 @@
-use Rattle.std.proofs.Common.{◌≡◌, ◌<◌, ◌≤◌, ℕ, true, false}
+use Rattle.std.proofs.Common.{◌≡◌, ◌<◌, ℕ, true, false}
 use Rattle.std.specs.Prelude.{◌==◌}
 use Rattle.vme_bus.specs.Sets.{has}
 use Rattle.vme_standings.specs.Phases.{HasFree, has_phase, held_row}

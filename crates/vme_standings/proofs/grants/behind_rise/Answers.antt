@@ -1,4 +1,4 @@
-use Rattle.std.proofs.Common.{◌≡◌, ◌∙◌, false, sym, ap}
+use Rattle.std.proofs.Common.{◌∙◌, false, sym, ap}
 use Rattle.std.specs.Prelude.{◌&&◌, ◌==◌, slice_index_or}
 use Rattle.vme_bus.specs.Sets.{has}
 use Rattle.vme_standings.specs.GrantChains.{is_follower}

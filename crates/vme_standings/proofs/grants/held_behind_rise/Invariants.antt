@@ -1,8 +1,8 @@
 use Rattle.std.proofs.Common.{false}
-use Rattle.std.specs.Prelude.{◌&&◌, ◌==◌, not, nat_lt}
+use Rattle.std.specs.Prelude.{◌&&◌}
 use Rattle.vme_bus.specs.Sets.{has}
 use Rattle.vme_standings.specs.Grants.{is_let_go}
-use Rattle.vme_standings.specs.Phases.{HasFree, has_phase, held_row}
+use Rattle.vme_standings.specs.Phases.{HasFree}
 use Rattle.vme_standings.proofs.Rows.{AreMade}
 use Rattle.vme_standings.proofs.grants.held_behind_rise.Given as goal
 

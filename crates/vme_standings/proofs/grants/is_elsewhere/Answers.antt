@@ -1,4 +1,3 @@
-use Rattle.std.proofs.Common.{◌≡◌}
 use Rattle.std.specs.Prelude.{◌==◌}
 use Rattle.vme_standings.specs.declared.phases.GrantPhase.TheVariants.{Held}
 use Rattle.vme_standings.proofs.Rows.{not_by}

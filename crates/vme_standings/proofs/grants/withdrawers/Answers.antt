@@ -1,4 +1,4 @@
-use Rattle.std.proofs.Common.{◌≡◌, ◌∙◌, true, sym}
+use Rattle.std.proofs.Common.{◌∙◌, sym}
 use Rattle.vme_model.proofs.Bools.{and_left, and_right}
 use Rattle.vme_standings.proofs.Growing.{both}
 use Rattle.vme_standings.proofs.grants.withdrawers.Goals as goal

@@ -1,8 +1,8 @@
 use Rattle.std.proofs.Common.{◌≡◌, ◌∙◌, false, ap, arith}
 use Rattle.std.proofs.lemmas.Bool.Decides.{nat_tests}
-use Rattle.std.specs.Prelude.{◌&&◌, ◌==◌, not, nat_lt}
+use Rattle.std.specs.Prelude.{◌&&◌}
 use Rattle.vme_bus.specs.Sets.{has}
-use Rattle.vme_standings.specs.Phases.{has_phase, held_row}
+use Rattle.vme_standings.specs.Phases.{held_row}
 use Rattle.vme_standings.proofs.Rows.{free_kept, held_step}
 use Rattle.vme_standings.proofs.phases.GrantPhases.held_by.Goals as goal
 

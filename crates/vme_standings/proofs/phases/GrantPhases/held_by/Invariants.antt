@@ -1,7 +1,7 @@
 use Rattle.std.proofs.Common.{false}
-use Rattle.std.specs.Prelude.{◌&&◌, ◌==◌, not, nat_lt}
+use Rattle.std.specs.Prelude.{◌&&◌}
 use Rattle.vme_bus.specs.Sets.{has}
-use Rattle.vme_standings.specs.Phases.{HasFree, has_phase, held_row}
+use Rattle.vme_standings.specs.Phases.{HasFree, held_row}
 use Rattle.vme_standings.proofs.Rows.{AreMade}
 use Rattle.vme_standings.proofs.phases.GrantPhases.held_by.Given as goal
 
