@@ -1,5 +1,5 @@
 //! The phases of the grants and BBSY* behind each change that the probes see, and who may have made
-//! it. Whatever no probe sees was added before (`unseen`).
+//! it. The phases that the edges without a probe lead to are in the set before.
 ghost use Rattle.std.specs.Prelude.{◌≡◌, ◌==◌, ◌&&◌, ◌||◌, ◌<◌, ℕ, true, false, nat_lt, not};
 ghost use Rattle.vme_bus.specs.Sets.{has};
 ghost use Rattle.vme_model.specs.Signals.{is_two};
