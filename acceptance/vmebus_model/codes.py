@@ -6,6 +6,7 @@ such a row for E3 and for E4, the verdicts that name a rule.
 
 import re
 import textwrap
+from functools import lru_cache
 from pathlib import Path
 
 DOCS = Path(__file__).resolve().parent.parent.parent / "docs"
@@ -34,4 +35,7 @@ def wrapped(paragraph):
     return [it.replace("\0", " ") for it in lines]
 
 
-CODES = {name: [f"{name} {text}", *wrapped(paragraph)] for name, text, paragraph in rows()}
+@lru_cache(maxsize=None)
+def codes():
+    """What `rule` prints of each code, as lines.  The pages are read at the first call, since not every tool has them beside it."""
+    return {name: [f"{name} {text}", *wrapped(paragraph)] for name, text, paragraph in rows()}

@@ -12,7 +12,7 @@ from pathlib import Path
 
 from .bus import Bus
 from .cases import Kept, first_difference
-from .codes import CODES
+from .codes import codes
 from .draw import goals
 from .drawing import plan_of, scenario_of, shuffled, some, spoiled_scenario, trace_of
 from .faults import Fault
@@ -59,7 +59,7 @@ def words_of(draw, edges, racing):
     yield ["summary", *files]
     yield ["summary", *FILES[:3], *draw.choice([[], ["trace.vme"], ["none.vme"]])]
     yield from words_of_orders(draw, edges, racing)
-    yield ["rule", *draw.choice([[], [draw.choice([*TABLE, *CODES])]])]
+    yield ["rule", *draw.choice([[], [draw.choice([*TABLE, *codes()])]])]
     yield from words_that_drive(draw)
     yield from (any_words(draw), any_words(draw))
 

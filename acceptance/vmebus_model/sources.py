@@ -8,7 +8,7 @@ than a memory of it.
 
 from typing import Dict, NamedTuple, Tuple
 
-from .codes import CODES
+from .codes import codes
 
 
 class Source(NamedTuple):
@@ -213,8 +213,8 @@ def line_of(condition, source, width):
 
 def lines_of(name):
     """The lines of one rule, or of another code."""
-    if name in CODES:
-        return CODES[name]
+    if name in codes():
+        return codes()[name]
     conditions = TABLE[name].conditions
     width = max(map(len, conditions), default=0)
     return [first_line(name), *(line_of(it, source, width) for it, source in conditions.items())]

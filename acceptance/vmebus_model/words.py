@@ -6,7 +6,7 @@ from typing import Dict, List
 
 from .draw import goals, why_no_goal
 from .faults import Fault, WrongWords
-from .codes import CODES
+from .codes import codes
 from .sources import TABLE, unmarked
 from .traces import name_of
 
@@ -186,7 +186,7 @@ def window_of(job):
 
 def rule_of(job):
     """A rule or another code, if there is one of that name."""
-    demand(all(it in TABLE or it in CODES for it in job.files), "no such rule")
+    demand(all(it in TABLE or it in codes() for it in job.files), "no such rule")
     return job
 
 
