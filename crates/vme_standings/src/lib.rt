@@ -1,7 +1,8 @@
 //! What can be known of a bus by the changes that an analyser saw: of each part of the bus the set
 //! of the ways in which it may stand, and who may have made each change.
 //!
-//! All combinations of these sets count. A set may hold a way too many, and never one too few.
+//! All combinations of these sets count. A set may hold a way too many, and never one too few:
+//! `laws` proves that of the interrupt requests, and of who drives AS* and DTACK*.
 #![tactic(auto)]
 
 pub mod chains;
