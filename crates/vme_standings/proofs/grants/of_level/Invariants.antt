@@ -1,0 +1,12 @@
+use Rattle.std.proofs.Common.{◌≡◌, ℕ}
+use Rattle.std.specs.Prelude.{◌&&◌, nat_lt}
+use Rattle.vme_model.specs.Accepted.{IsAccepted}
+use Rattle.vme_bus.specs.Sets.{has}
+use Rattle.vme_standings.specs.GrantChains.{is_of_level}
+use Rattle.vme_standings.proofs.grants.of_level.Given as goal
+
+abbrev pub invariant-loop-slot : goal.invariant-loop-slot
+invariant-loop-slot l = record {
+  accepted : IsAccepted l.plan;
+  held : (s : ℕ) → has l.found s ≡ (nat_lt s l.slot && (is_of_level l.plan l.level s && has l.slots s));
+}

@@ -1,0 +1,8 @@
+use Rattle.std.proofs.Common.{◌≡◌, ℕ}
+use Rattle.std.specs.Prelude.{◌&&◌, nat_lt}
+use Rattle.vme_bus.specs.Sets.{has}
+use Rattle.vme_standings.specs.Interrupters.{is_on_low_line}
+use Rattle.vme_standings.proofs.interrupters.on_low_lines.Given as goal
+
+abbrev pub invariant-loop-slot : goal.invariant-loop-slot
+invariant-loop-slot l = (s : ℕ) → has l.slots s ≡ (nat_lt s l.slot && is_on_low_line l.lines l.plan s)

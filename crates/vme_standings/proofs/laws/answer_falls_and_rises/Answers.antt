@@ -1,0 +1,19 @@
+use Rattle.vme_model.specs.declared.signals.Wire.TheVariants.{Dtack}
+use Rattle.vme_captures.specs.declared.signals.Line.TheVariants as line
+use Rattle.vme_captures.specs.declared.signals.Signal.TheVariants as signal
+use Rattle.vme_standings.proofs.Drivers.{fall_leaves, rise_leaves, rise_by, fell, rose}
+use Rattle.vme_standings.proofs.SeenLines.{differs, way}
+use Rattle.vme_standings.proofs.laws.answer_falls_and_rises.Goals as goal
+
+pub returns : goal.returns
+returns c = record {
+  falls = λ version p pins h e v new ok legal s is fall among.
+      let l = fell version p ok h e legal Dtack (differs p ok pins h e v s (signal.Line line.Dtack) is) (way p ok pins h e v s _ fall) in
+      fall_leaves version p ok h e legal Dtack new l.0 among;
+  by = λ version p pins h e v old ok legal s is fall covers.
+      let l = rose version p ok h e legal Dtack (differs p ok pins h e v s (signal.Line line.Dtack) is) (way p ok pins h e v s _ fall) in
+      rise_by version p ok h e legal Dtack old l.0 l.1 covers;
+  rises = λ version p pins h e v new ok legal s is fall.
+      let l = rose version p ok h e legal Dtack (differs p ok pins h e v s (signal.Line line.Dtack) is) (way p ok pins h e v s _ fall) in
+      rise_leaves version p ok h e legal Dtack new l.1;
+}
