@@ -324,7 +324,8 @@ class Faults(unittest.TestCase):
             ("scenario", Bus, None), ("scenario", Bus, 3), ("version", Bus, text, "1"), ("version", Bus, text, 1.0),
             ("version", Bus, text, True), ("edge", bus.step, b"1 br-"), ("edge", bus.step, None), ("driver", bus.open, 2.7),
             ("driver", bus.open, True), ("driver", bus.open, None), ("wire", bus.low, 1, 3), ("only", Wires, {2: "dtack"}),
-            ("seed", Draws, 1.5), ("seed", Draws, "1"), ("bus", Draws(1).next, Draws(1)),
+            ("only", Wires, [1]), ("only", Wires, {1: None}), ("wire", Wires, {1: [3]}),
+            ("wires", Draws(1).next, bus, {1: []}), ("wires", Draws(1).next, bus, None), ("seed", Draws, 1.5), ("seed", Draws, "1"), ("bus", Draws(1).next, Draws(1)),
         ):
             with self.subTest(f"{name} {given}"):
                 self.assertRaisesRegex(TypeError, f"^{name}: ", call, *given)
@@ -441,6 +442,17 @@ class Cocotb(unittest.TestCase):
         with self.assertRaises(AssertionError) as caught:
             self.move(running, DROPPED)
         self.assertEqual(str(caught.exception), "1 ds+: E3 G18; DTACK* or BERR* is low")
+
+    def test_wires(self):
+        """A key that is no wire of the backplane is told when the monitor is made."""
+        for name in ("1 brr", "br 1", "1_br", "9 br", "01 br", "1  br", "1 bg3", "c br", "2 br", "", 1, None):
+            wires = {**self.wires, name: Handle()}
+            with self.subTest(name):
+                self.assertRaisesRegex(ValueError, f"^wires: {name!r} is no wire", self.monitor, None, wires, self.bus)
+
+    def test_import_without_cocotb(self):
+        words = [sys.executable, "-B", "-c", "import sys; sys.modules['cocotb'] = None; import vmebus.cocotb"]
+        subprocess.run(words, cwd=TOP / "python", check=True)
 
     def test_shows_is_wanted(self):
         running = self.running()
