@@ -355,6 +355,9 @@ class Faults(unittest.TestCase):
         said = self.import_in(TOP / "python", "/no/libvmebus.so")
         self.assertRegex(said, r"LibraryError: .* ./try --library .* \(cd crates/vmebus_c && rt lib && ./shared\) ")
 
+    def test_folder_of_the_library(self):
+        self.assertEqual(self.import_in(TOP / "python", str(Path(vmebus.LIBRARY._name).parent)), "")
+
     def test_other_build(self):
         """The package does not go with a library whose bus has another number of words."""
         with tempfile.TemporaryDirectory() as room:
@@ -382,6 +385,36 @@ class Installed(unittest.TestCase):
         self.assertEqual((version, verdict), (vmebus.__version__, "ok"))
         self.assertTrue(library.startswith(str(Path(room).resolve())), library)
         self.assertIn(f'version = "{version}"\n', (TOP / "python/pyproject.toml").read_text())
+
+
+class Wheels(unittest.TestCase):
+    """Which library goes into a wheel."""
+
+    def packed(self, places, **given):
+        """What is said of a wheel: the bytes of its library, or the error. `places` are libraries in an empty folder."""
+        with tempfile.TemporaryDirectory() as room:
+            at = Path(room, "share/vmebus/python")
+            shutil.copytree(TOP / "python", at, ignore=shutil.ignore_patterns("tests", "__pycache__"))
+            for place in places:
+                Path(room, place).parent.mkdir(parents=True, exist_ok=True)
+                Path(room, place).write_text(place)
+            made = "import wheels, zipfile; print(zipfile.ZipFile(wheels.build_wheel('.')).read('vmebus/libvmebus.so').decode())"
+            others = {name: value for name, value in os.environ.items() if name != "VMEBUS_LIBRARY"}
+            given = {name: str(Path(room, value)) for name, value in given.items()}
+            ran = subprocess.run([sys.executable, "-B", "-c", made], cwd=at, env={**others, **given}, text=True,
+                                 stdout=subprocess.PIPE, stderr=subprocess.STDOUT)
+        return ran.stdout.splitlines()[-1]
+
+    def test_places(self):
+        installed, built = "lib/libvmebus.so", "share/vmebus/crates/vmebus_c/out/libvmebus.so"
+        self.assertEqual(self.packed([installed]), installed)
+        self.assertEqual(self.packed([built]), built)
+        self.assertEqual(self.packed([installed, "other/it.so"], VMEBUS_LIBRARY="other/it.so"), "other/it.so")
+        self.assertEqual(self.packed([installed, "other/libvmebus.so"], VMEBUS_LIBRARY="other"), "other/libvmebus.so")
+
+    def test_none(self):
+        self.assertRegex(self.packed([]), "^FileNotFoundError: there is no libvmebus.so in .*: set VMEBUS_LIBRARY ")
+        self.assertRegex(self.packed(["lib/libvmebus.so"], VMEBUS_LIBRARY="other"), "^FileNotFoundError: VMEBUS_LIBRARY names ")
 
 
 class RisingEdge:
