@@ -476,6 +476,15 @@ class Cocotb(unittest.TestCase):
             self.move(running, DROPPED)
         self.assertEqual(str(caught.exception), "1 ds+: E3 G18; DTACK* or BERR* is low")
 
+    def test_address_off_late(self):
+        """AS* may not rise in a clock before that in which the address goes off."""
+        running = self.running(shows=lambda _: "r2")
+        for names in (*TAKEN, "2 dtack", "1 ds"):
+            self.move(running, names)
+        with self.assertRaises(AssertionError) as caught:
+            self.move(running, "1 as")
+        self.assertEqual(str(caught.exception), "1 as+: E3 G20; own addr is off (profile)")
+
     def test_wires(self):
         """A key that is no wire of the backplane is told when the monitor is made."""
         for name in ("1 brr", "br 1", "1_br", "9 br", "01 br", "1  br", "1 bg3", "c br", "2 br", "", 1, None):
