@@ -1,7 +1,8 @@
 """Packs the package for pip, with nothing but Python's standard library, so that pip needs no network.
 
-The wheel has the shared library beside the modules if there is one: that of $VMEBUS_LIBRARY, or the one in
-crates/vmebus_c/out. Without it, a program that imports the package has to set VMEBUS_LIBRARY.
+The wheel has the shared library beside the modules: that of $VMEBUS_LIBRARY, which may name its folder, or the one in
+crates/vmebus_c/out of the repository, or in lib of the prefix that this folder was installed into. Without one no wheel
+is made.
 """
 
 from __future__ import annotations
@@ -12,19 +13,27 @@ import os
 import re
 import zipfile
 from pathlib import Path
-from typing import Dict, List, Optional
+from typing import Dict, List
 
 HERE = Path(__file__).resolve().parent
-BUILT = HERE.parent / "crates/vmebus_c/out/libvmebus.so"
+NAME = "libvmebus.so"
+
+# Where the library lies if VMEBUS_LIBRARY does not say so: in the repository, and in a prefix, whose share/vmebus/python
+# this folder then is.
+PLACES = [HERE.parent / "crates/vmebus_c/out" / NAME, HERE.parent.parent.parent / "lib" / NAME]
 
 
-def library() -> Optional[Path]:
-    """The shared library that goes into the wheel."""
+def library() -> Path:
+    """The shared library that goes into the wheel. Raises FileNotFoundError if there is none."""
     given = os.environ.get("VMEBUS_LIBRARY")
-    if given and not Path(given).is_file():
-        raise FileNotFoundError(f"VMEBUS_LIBRARY names {given}, and there is no such file")
-    found = Path(given) if given else BUILT
-    return found if found.is_file() else None
+    places = [Path(given), Path(given, NAME)] if given else PLACES
+    found = next(filter(Path.is_file, places), None)
+    if found is None and given:
+        raise FileNotFoundError(f"VMEBUS_LIBRARY names {given}, and there is no such file, and no {NAME} in it")
+    if found is None:
+        raise FileNotFoundError(f"there is no {NAME} in {' or '.join(str(it.parent) for it in PLACES)}: set VMEBUS_LIBRARY to "
+                                "one, such as that which ./try --library FOLDER makes in FOLDER")
+    return found
 
 
 def stated(key: str) -> str:
@@ -37,10 +46,7 @@ def stated(key: str) -> str:
 def files() -> Dict[str, bytes]:
     """The files of the package by their names in the wheel."""
     found = {f"vmebus/{it.name}": it.read_bytes() for it in sorted((HERE / "vmebus").iterdir()) if it.is_file()}
-    shared = library()
-    if shared:
-        found["vmebus/libvmebus.so"] = shared.read_bytes()
-    return found
+    return {**found, f"vmebus/{NAME}": library().read_bytes()}
 
 
 def metadata() -> str:
@@ -58,7 +64,7 @@ def summed(name: str, text: bytes) -> str:
 def build_wheel(wheel_directory: str, config_settings: object = None, metadata_directory: object = None) -> str:
     """What pip calls: writes the wheel, and returns its name."""
     packed = files()
-    tag = "py3-none-linux_x86_64" if "vmebus/libvmebus.so" in packed else "py3-none-any"
+    tag = "py3-none-linux_x86_64"
     room = f"vmebus-{stated('version')}.dist-info"
     packed[f"{room}/METADATA"] = metadata().encode()
     packed[f"{room}/WHEEL"] = f"Wheel-Version: 1.0\nGenerator: vmebus\nRoot-Is-Purelib: true\nTag: {tag}\n".encode()

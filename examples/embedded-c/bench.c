@@ -90,6 +90,16 @@ static uint32_t version_of(const char *trace, size_t bytes) {
     return (uint32_t)(trace[4] - '0');
 }
 
+/* Opens a bus, or ends the program. A size is no fault of the scenario, so vmebus_fault_text writes no line for it. */
+static void open_bus(struct vmebus *bus, uint32_t version, const char *scenario, size_t bytes) {
+    uint32_t fault = vmebus_open(bus, version, scenario, bytes);
+    if (fault == 0) return;
+    char line[VMEBUS_MOST_FAULT + 1] = "header and library are of different sizes";
+    if (fault != VMEBUS_FAULT_SIZE) vmebus_fault_text(version, scenario, bytes, line, sizeof line);
+    fprintf(stderr, "bench: %s\n", line);
+    exit(1);
+}
+
 int main(int count, char **words) {
     if (count != 3) {
         fprintf(stderr, "usage: bench SCENARIO TRACE\n");
@@ -101,13 +111,8 @@ int main(int count, char **words) {
     struct vmebus by_line, by_numbers;
     memset(&by_line, 0, sizeof by_line);
     memset(&by_numbers, 0xff, sizeof by_numbers);
-    if (vmebus_open(&by_line, version, scenario, scenario_bytes) != 0 ||
-        vmebus_open(&by_numbers, version, scenario, scenario_bytes) != 0) {
-        char fault[VMEBUS_MOST_FAULT + 1];
-        vmebus_fault_text(version, scenario, scenario_bytes, fault, sizeof fault);
-        fprintf(stderr, "bench: %s\n", fault);
-        exit(1);
-    }
+    open_bus(&by_line, version, scenario, scenario_bytes);
+    open_bus(&by_numbers, version, scenario, scenario_bytes);
 
     unsigned long accepted = 0, refused = 0;
     const char *end = trace + trace_bytes, *line = trace + 6, *feed;

@@ -14,12 +14,14 @@
 // A backplane and all edges that it has accepted. A copy is a snapshot.
 class Bus {
   public:
-    // Opens a bus at power-up, under the rules of version 1 or 2. Throws the line of the scenario's fault.
+    // Opens a bus at power-up, under the rules of version 1 or 2. Throws the fault in words.
     Bus(uint32_t version, const std::string &scenario) {
-        if (vmebus_open(&bus_, version, scenario.data(), scenario.size()) == 0) return;
-        char fault[VMEBUS_MOST_FAULT + 1];
-        vmebus_fault_text(version, scenario.data(), scenario.size(), fault, sizeof fault);
-        throw std::runtime_error(fault);
+        uint32_t fault = vmebus_open(&bus_, version, scenario.data(), scenario.size());
+        if (fault == 0) return;
+        if (fault == VMEBUS_FAULT_SIZE) throw std::runtime_error("header and library are of different sizes");
+        char line[VMEBUS_MOST_FAULT + 1] = "";
+        vmebus_fault_text(version, scenario.data(), scenario.size(), line, sizeof line);
+        throw std::runtime_error(line);
     }
 
     // Judges the edge of a line, makes it if it is accepted, and returns the verdict. Throws if the line spells no edge.

@@ -324,7 +324,8 @@ class Faults(unittest.TestCase):
             ("scenario", Bus, None), ("scenario", Bus, 3), ("version", Bus, text, "1"), ("version", Bus, text, 1.0),
             ("version", Bus, text, True), ("edge", bus.step, b"1 br-"), ("edge", bus.step, None), ("driver", bus.open, 2.7),
             ("driver", bus.open, True), ("driver", bus.open, None), ("wire", bus.low, 1, 3), ("only", Wires, {2: "dtack"}),
-            ("seed", Draws, 1.5), ("seed", Draws, "1"), ("bus", Draws(1).next, Draws(1)),
+            ("only", Wires, [1]), ("only", Wires, {1: None}), ("wire", Wires, {1: [3]}),
+            ("wires", Draws(1).next, bus, {1: []}), ("wires", Draws(1).next, bus, None), ("seed", Draws, 1.5), ("seed", Draws, "1"), ("bus", Draws(1).next, Draws(1)),
         ):
             with self.subTest(f"{name} {given}"):
                 self.assertRaisesRegex(TypeError, f"^{name}: ", call, *given)
@@ -354,6 +355,9 @@ class Faults(unittest.TestCase):
         said = self.import_in(TOP / "python", "/no/libvmebus.so")
         self.assertRegex(said, r"LibraryError: .* ./try --library .* \(cd crates/vmebus_c && rt lib && ./shared\) ")
 
+    def test_folder_of_the_library(self):
+        self.assertEqual(self.import_in(TOP / "python", str(Path(vmebus.LIBRARY._name).parent)), "")
+
     def test_other_build(self):
         """The package does not go with a library whose bus has another number of words."""
         with tempfile.TemporaryDirectory() as room:
@@ -381,6 +385,36 @@ class Installed(unittest.TestCase):
         self.assertEqual((version, verdict), (vmebus.__version__, "ok"))
         self.assertTrue(library.startswith(str(Path(room).resolve())), library)
         self.assertIn(f'version = "{version}"\n', (TOP / "python/pyproject.toml").read_text())
+
+
+class Wheels(unittest.TestCase):
+    """Which library goes into a wheel."""
+
+    def packed(self, places, **given):
+        """What is said of a wheel: the bytes of its library, or the error. `places` are libraries in an empty folder."""
+        with tempfile.TemporaryDirectory() as room:
+            at = Path(room, "share/vmebus/python")
+            shutil.copytree(TOP / "python", at, ignore=shutil.ignore_patterns("tests", "__pycache__"))
+            for place in places:
+                Path(room, place).parent.mkdir(parents=True, exist_ok=True)
+                Path(room, place).write_text(place)
+            made = "import wheels, zipfile; print(zipfile.ZipFile(wheels.build_wheel('.')).read('vmebus/libvmebus.so').decode())"
+            others = {name: value for name, value in os.environ.items() if name != "VMEBUS_LIBRARY"}
+            given = {name: str(Path(room, value)) for name, value in given.items()}
+            ran = subprocess.run([sys.executable, "-B", "-c", made], cwd=at, env={**others, **given}, text=True,
+                                 stdout=subprocess.PIPE, stderr=subprocess.STDOUT)
+        return ran.stdout.splitlines()[-1]
+
+    def test_places(self):
+        installed, built = "lib/libvmebus.so", "share/vmebus/crates/vmebus_c/out/libvmebus.so"
+        self.assertEqual(self.packed([installed]), installed)
+        self.assertEqual(self.packed([built]), built)
+        self.assertEqual(self.packed([installed, "other/it.so"], VMEBUS_LIBRARY="other/it.so"), "other/it.so")
+        self.assertEqual(self.packed([installed, "other/libvmebus.so"], VMEBUS_LIBRARY="other"), "other/libvmebus.so")
+
+    def test_none(self):
+        self.assertRegex(self.packed([]), "^FileNotFoundError: there is no libvmebus.so in .*: set VMEBUS_LIBRARY ")
+        self.assertRegex(self.packed(["lib/libvmebus.so"], VMEBUS_LIBRARY="other"), "^FileNotFoundError: VMEBUS_LIBRARY names ")
 
 
 class RisingEdge:
@@ -441,6 +475,26 @@ class Cocotb(unittest.TestCase):
         with self.assertRaises(AssertionError) as caught:
             self.move(running, DROPPED)
         self.assertEqual(str(caught.exception), "1 ds+: E3 G18; DTACK* or BERR* is low")
+
+    def test_address_off_late(self):
+        """AS* may not rise in a clock before that in which the address goes off."""
+        running = self.running(shows=lambda _: "r2")
+        for names in (*TAKEN, "2 dtack", "1 ds"):
+            self.move(running, names)
+        with self.assertRaises(AssertionError) as caught:
+            self.move(running, "1 as")
+        self.assertEqual(str(caught.exception), "1 as+: E3 G20; own addr is off (profile)")
+
+    def test_wires(self):
+        """A key that is no wire of the backplane is told when the monitor is made."""
+        for name in ("1 brr", "br 1", "1_br", "9 br", "01 br", "1  br", "1 bg3", "c br", "2 br", "", 1, None):
+            wires = {**self.wires, name: Handle()}
+            with self.subTest(name):
+                self.assertRaisesRegex(ValueError, f"^wires: {name!r} is no wire", self.monitor, None, wires, self.bus)
+
+    def test_import_without_cocotb(self):
+        words = [sys.executable, "-B", "-c", "import sys; sys.modules['cocotb'] = None; import vmebus.cocotb"]
+        subprocess.run(words, cwd=TOP / "python", check=True)
 
     def test_shows_is_wanted(self):
         running = self.running()

@@ -277,9 +277,9 @@ def _delivery(number: int) -> Delivery:
 
 def _wires_mask(wires: Iterable[str]) -> int:
     """The mask of some wires of a driver."""
-    if isinstance(wires, (str, bytes)):
-        raise wrong_type("only", f"a list of wires, such as [{wires!r}],", wires)
-    return sum(1 << wire_number(it) for it in set(wires))
+    if isinstance(wires, (str, bytes)) or not isinstance(wires, Iterable):
+        raise wrong_type("only", "a list of wires, such as ['dtack'], for each driver", wires)
+    return sum(1 << at for at in {wire_number(it) for it in wires})
 
 
 class Wires:
@@ -287,6 +287,8 @@ class Wires:
     wires that are named. `Wires({2: ["dtack"]})` leaves slot 2 to the bench, but for its dtack."""
 
     def __init__(self, only: Optional[Mapping[Driver, Iterable[str]]] = None):
+        if only is not None and not isinstance(only, Mapping):
+            raise wrong_type("only", "a dict of drivers and their wires, such as {2: ['dtack']},", only)
         masks = [0xFFFF] * (MOST_SLOTS + 1)
         for driver, wires in (only or {}).items():
             masks[driver_number(driver)] = _wires_mask(wires)
@@ -315,6 +317,8 @@ class Draws:
         """
         if not isinstance(bus, Bus):
             raise wrong_type("bus", "a Bus", bus)
+        if not isinstance(wires, Wires):
+            raise wrong_type("wires", "Wires, such as Wires({2: ['dtack']}),", wires)
         masks = wires._masks
         answer = LIBRARY.vmebus_draw(bus._words, self._words, masks, len(masks), self._edge)
         return None if answer else line_of(self._edge.value)

@@ -26,9 +26,11 @@ class LibraryError(ImportError):
 
 
 def found() -> Path:
-    """The file of the library."""
+    """The file of the library. VMEBUS_LIBRARY may name its folder."""
     given = os.environ.get("VMEBUS_LIBRARY")
-    return Path(given) if given else next(filter(Path.is_file, PLACES), PLACES[0])
+    if given:
+        return Path(given, "libvmebus.so") if Path(given).is_dir() else Path(given)
+    return next(filter(Path.is_file, PLACES), PLACES[0])
 
 
 def opened(file: Path) -> ctypes.CDLL:
