@@ -6,3 +6,7 @@ pub mod Phases
 pub mod GrantChains
 -- words: the phases behind each change of the grants and BBSY*
 pub mod Grants
+-- believe: when the bus is in a phase of the grants
+pub mod InPhase
+-- believe: which phases an edge leads to that no probe sees, and how they are gathered
+pub mod Unseen

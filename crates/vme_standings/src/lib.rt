@@ -8,5 +8,6 @@
 pub mod chains;
 pub mod grants;
 mod phases;
+pub mod unseen;
 
 pub use phases::{GrantPhase, GrantPhases};
