@@ -70,7 +70,8 @@ behind_rise p version c place s (Granting n t) = false
 abbrev pub is_taken : Plan → BusLevels → GrantPhases → ℕ → Bool
 is_taken p requests s b =
     option_map_or
-    (λ q. has_bus_level requests q.level && has_phase s (Granting q.level (place_before p q.level b)))
+    (λ q. has_bus_level requests q.level
+    && has_phase s (Granting q.level (place_before p q.level b)))
     (requester_at p b) false
 
 abbrev pub behind_take : Plan → BusLevels → GrantPhases → GrantPhase → Bool

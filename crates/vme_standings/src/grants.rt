@@ -76,9 +76,8 @@ fn is_picked(plan: &Plan, requests: BusLevels, last: u8, level: u8) -> bool
 pub(crate) fn is_granted(plan: &Plan, requests: BusLevels, level: u8, phases: &GrantPhases) -> bool
     ensures { result ≡ is_granted plan.now requests level phases.now }
 {
-    [0, 1, 2, 3]
-        .iter()
-        .any(|last| phases.is_idle_at(*last) && is_picked(plan, requests, *last, level))
+    [0, 1, 2, 3].iter().any(|last| phases.is_idle_at(*last)
+        && is_picked(plan, requests, *last, level))
 }
 
 /// The phases behind a fall of the controller's segment of a level's chain. It is the controller
@@ -380,12 +379,7 @@ pub fn behind_request(askers: SlotSet, phases: &GrantPhases) -> GrantPhases
 
 /// The boards that may have made a rise of the BR line of a level: in the first version those that
 /// may hold the bus, and in the second all of the level.
-pub fn withdrawers(
-    plan: &Plan,
-    version: Version,
-    level: u8,
-    phases: &GrantPhases,
-) -> SlotSet
+pub fn withdrawers(plan: &Plan, version: Version, level: u8, phases: &GrantPhases) -> SlotSet
     ensures two { is_two version ≡ true → (s : ℕ) →
         has result s ≡ is_of_level plan.now level s }
     ensures some { is_two version ≡ false → (s : ℕ) → has result s ≡ true →
