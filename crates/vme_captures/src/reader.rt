@@ -33,7 +33,7 @@ pub struct Probe {
     pub low: bool,
 }
 
-/// Reads a capture that comes in pieces, cut anywhere. docs/PROBE.md describes the text.
+/// Reads a capture that comes in pieces, cut anywhere. `specs/Spelling.antt` has the text.
 ///
 /// It keeps at most one unfinished line, the pins, and what is low, whatever the length of the
 /// capture. After a fault it is not to be used.

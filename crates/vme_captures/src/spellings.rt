@@ -1,4 +1,4 @@
-//! How changes are spelled. docs/PROBE.md has the spellings.
+//! How changes are spelled. `specs/Spelling.antt` has the spellings.
 ghost use Rattle.std.specs.Prelude.{◌≡◌, ◌≤◌, IsTrue};
 ghost use Rattle.arrayvec.specs.ArrayVec.{array_vec_len};
 ghost use Rattle.vme_captures.specs.Signals.{is_change, is_signal};

@@ -1,4 +1,4 @@
-//! What a line of a capture says, read word by word. docs/PROBE.md has the spellings.
+//! What a line of a capture says, read word by word. `specs/Spelling.antt` has the spellings.
 ghost use Rattle.std.specs.Prelude.{◌≡◌, ◌≤◌, IsTrue, length};
 ghost use Rattle.std.specs.List.{position_or_len};
 ghost use Rattle.vme_model.specs.Signals.{is_level, is_slot};
@@ -275,7 +275,7 @@ fn low_of(text: &[u8]) -> Option<Signal>
 }
 
 /// What a line of a capture says, given without its line feed; none if it says nothing that a line
-/// below the header line may say. docs/PROBE.md has the spellings.
+/// below the header line may say. `specs/Spelling.antt` has the spellings.
 #[tactic(auto, unfolding(crate::specs::Words::entry_of))]
 pub fn entry_of(line: &[u8]) -> Option<Entry>
     ensures { result ≡ entry_of line.now }
