@@ -1,4 +1,4 @@
-"""Captures: what an analyzer saw of the shared lines and of some pins, and the faults of a text of that.
+"""Captures: what an analyser saw of the shared lines and of some pins, and the faults of a text of that.
 
 A *change* is the fall or the rise of a line or of a pin.  It has no driver: that is what `probe` asks for.
 """

@@ -56,6 +56,7 @@ def words_of(draw, edges, racing):
     yield ["replay", *files, "--full"]
     yield ["check", *FILES[:3], *draw.choice([[], ["trace.vme"], ["none.vme", "second.vme"]])]
     yield ["cycles", *files]
+    yield ["probe", *files]
     yield ["summary", *files]
     yield ["summary", *FILES[:3], *draw.choice([[], ["trace.vme"], ["none.vme"]])]
     yield from words_of_orders(draw, edges, racing)

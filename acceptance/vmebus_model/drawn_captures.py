@@ -1,9 +1,9 @@
 """`--captures`: captures that are drawn.
 
 A legal run is drawn, and what a probe sees of it from some place on, with all pins, those of a slot, some, or none.  More than
-half of the captures are then spoiled: by an edge that is refused and forced, by changes that are moved, by other rules, or by a
-broken line.  On all of them a built program is compared with the model.  A capture that is not spoiled has to be possible, and
-each change has to name the board that made it.
+half of the captures are then spoiled: by an edge that is refused and forced, by changes that are moved, left out or added, by
+other rules, or by a broken line.  On all of them a built program is compared with the model.  A capture that is not spoiled has
+to be possible, and each change has to name the board that made it.
 """
 
 import os
@@ -14,7 +14,7 @@ from collections import Counter
 from pathlib import Path
 
 from .bus import Bus
-from .captures import ACCESS, LINES, PINS, Kind, text_of, wire_of
+from .captures import ACCESS, CYCLES, LINES, PINS, Kind, text_of, wire_of
 from .cases import Kept
 from .drawing import legal_edge, near_edge, some, spoiled_trace
 from .drawn import SECONDS, difference
@@ -104,11 +104,12 @@ def told_less(draw, kinds):
 # Spoiled captures
 
 
-def spoiled(draw, kinds, pins):
-    """What was seen, with two changes in each other's places, one left out, one more, or one of another slot, level or byte."""
-    kinds, way = list(kinds), draw.randrange(5)
-    if not kinds:
-        return kinds
+def spoiled(draw, kinds, pins, low=()):
+    """What was seen, with two changes in each other's places, one left out, one more, or one of another slot, level or byte; or up
+    to some place, and behind it a change that the levels allow.  `low` is what was low at the beginning."""
+    kinds, way = list(kinds), draw.randrange(8)
+    if way > 4 or not kinds:
+        return with_odd_end(draw, kinds[: draw.randint(0, len(kinds))], pins, low)
     at = draw.randrange(len(kinds))
     other = draw.choice([at - 1, draw.randrange(len(kinds))])
     if way == 0:
@@ -121,7 +122,28 @@ def spoiled(draw, kinds, pins):
         kinds.insert(other, kinds.pop(at))
     else:
         kinds = [another(draw, it) for it in kinds]
-    return [it if it.of != "AS" or not it.falls or it.cycle else it._replace(cycle=ACCESS) for it in kinds]
+    kinds = [it if it.of != "AS" or not it.falls or it.cycle else it._replace(cycle=ACCESS) for it in kinds]
+    return list(that_change(kinds, low)) if some(draw, 0.7) else kinds
+
+
+def with_odd_end(draw, kinds, pins, low):
+    """These changes, and one of any line or pin to its other level."""
+    of, now = draw.choice([*LINES, *pins]), set(low)
+    for kind in kinds:
+        now ^= {kind.of}
+    falls = of not in now
+    cycle = draw.choice([ACCESS, *CYCLES]) if of == "AS" and falls else None
+    byte = draw.choice([None, None, 0, draw.randrange(256)]) if of == "DTACK" and falls else None
+    return [*kinds, Kind(of, falls, cycle, byte)]
+
+
+def that_change(kinds, low):
+    """Those of the changes that are no fall of what is low, and no rise of what is high."""
+    now = set(low)
+    for kind in kinds:
+        if (kind.of in now) != kind.falls:
+            now ^= {kind.of}
+            yield kind
 
 
 def another(draw, kind):
@@ -139,7 +161,8 @@ def faulty(draw, text, pins):
         return spoiled_trace(draw, text)
     lines = text.splitlines()
     below = [f"@{int(it[1:]) - 1}" for it in lines if it.startswith("@")]
-    own = [f"pin {draw.choice(PINS)}", *(f"pin {it}" for it in pins), *(f"low {it}" for it in pins)]
+    others = [f"{draw.choice(PINS)}{draw.choice('+-')}", f"low {draw.choice(PINS)}", f"pin {draw.choice(PINS)}"]
+    own = [*others, *(f"pin {it}" for it in pins), *(f"low {it}" for it in pins)]
     begin = next((place for place, it in enumerate(lines) if it.startswith("@")), len(lines))
     at = draw.choice([draw.randint(0, len(lines)), draw.randint(min(1, len(lines)), max(1, begin))])
     lines.insert(at, draw.choice(below[-2:] + own + draw.choices(lines) + draw.choices(BAD_LINES, k=8)))
@@ -179,7 +202,7 @@ class DrawnCapture:
         kinds = [it._replace(of=wires.get(it.of, it.of)) for it, _ in shown]
         kinds = list(told_less(draw, kinds))
         if way == "spoiled":
-            kinds = spoiled(draw, kinds, self.pins)
+            kinds = spoiled(draw, kinds, self.pins, {wires.get(it, it) for it in low})
         spelled = [str(wires.get(it, it)) for it in low]
         timed = zip(kinds, moments_drawn(draw, len(kinds)))
         text = text_of(3 - version if way == "other rules" else version, self.pins, self.low_drawn(draw, spelled), timed)

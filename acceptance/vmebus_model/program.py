@@ -12,6 +12,7 @@ from .explain import explain
 from .faults import Fault, WrongWords, escaped
 from .judging import check, check_all, replay
 from .order import order
+from .probe import probe
 from .races import races
 from .same import same
 from .show import show
@@ -150,6 +151,8 @@ def done(job, console):
         return (drive_seeds if "--seeds" in options else drive_drawn if "--seed" in options else drive)(plan, options, console)
     if job.command == "order":
         return order(plan, first, options, console)
+    if job.command == "probe":
+        return probe(plan, first, console)
     if job.command == "same":
         return same(plan, (first, other), trace_names, console)
     trace = Trace(first)

@@ -40,28 +40,28 @@ def profile(why, version=0):
 
 
 TABLE = {
-    "E1": Rule("any", "An edge needs a board in its slot, and a board that has the wire.",
+    "E1": Rule("any", "An edge needs a board in its slot, and the board must have the wire.",
                dict.fromkeys(("the slot has a board", "the board has a requester", "the board has an interrupter"))),
-    "E2": Rule("any", "A wire goes to its other state only.",
+    "E2": Rule("any", "A wire can only change to its other state.",
                dict.fromkeys(f"DRIVER WIRE is {it}" for it in ("high", "off", "low", "on"))),
     "G1": Rule("c bgN-", "The arbiter grants the level that its policy picks, one grant at a time, while the bus has no owner.", {
-        "all four grants are high": profile("it waits until all four drivers are high"),
+        "all four grants are high": profile("the standard does not ask for all four"),
         "BBSY* is high": standard(3),
-        "the arbiter picks level N": profile("the policies are chapter 3's; that the pick is of this moment is ours"),
+        "the arbiter picks level N": profile("the policies are chapter 3's; only the moment of the pick is ours"),
     }),
-    "G2": Rule("c bgN+", "A grant stands until a board has taken it. Version 2: it may also time out, by S3.", {
+    "G2": Rule("c bgN+", "A grant stays asserted until a board has taken it. Version 2: it may also time out, by S3.", {
         "BBSY* is low": standard(3, version=1),
     }),
-    "G3": Rule("c bclr-", "A priority arbiter asks the owner to make room for a request of a higher level.", {
+    "G3": Rule("c bclr-", "A priority arbiter asks the owner to release the bus for a request of a higher level.", {
         "the arbiter is PRI": profile("BCLR* from an RRS arbiter is left out"),
         "BBSY* is low": standard(3),
-        "all four grants are high": profile("it waits until the grants are high again"),
+        "all four grants are high": profile("bus clear waits until the grants are high again"),
         "a request above the level last granted is low": standard(3),
     }),
-    "G4": Rule("c bclr+", "Bus clear stands as long as its reason lasts.", {
-        "bus clear is not due": profile("it also ends when the request goes away"),
+    "G4": Rule("c bclr+", "Bus clear stays asserted as long as it is due.", {
+        "bus clear is not due": profile("bus clear also ends once no higher request is left"),
     }),
-    "G5": Rule("c iack-", "The daisy-chain driver starts the IACK chain of the acknowledge that is shown.", {
+    "G5": Rule("c iack-", "The daisy-chain driver starts the IACK chain for the acknowledge that is shown.", {
         "AS* is low": standard(4),
         "DS0* is low": standard(4),
         "an acknowledge is shown": standard(4),
@@ -73,13 +73,13 @@ TABLE = {
         "DS0* is low": standard(2),
         "DTACK* is high": standard(2),
     }),
-    "G8": Rule("c berr+", "A bus error stands until the master has seen it.", {
+    "G8": Rule("c berr+", "A bus error stays asserted until the master has seen it.", {
         "DS0* is high": standard(2),
     }),
     "G9": Rule("br-", "The owner of the bus does not request it.", {
-        "own bbsy is high": profile("the owner has what it would request"),
+        "own bbsy is high": profile("the owner does not need to request the bus"),
     }),
-    "G10": Rule("br+", "A request stands until it is met. Version 2: it may be withdrawn.", {
+    "G10": Rule("br+", "A request stays asserted until it is met. Version 2: it may be withdrawn.", {
         "own bbsy is low": profile("no request is withdrawn", version=1),
     }),
     "G11": Rule("bgout-", "A board that does not want the grant passes it on.", {
@@ -87,44 +87,44 @@ TABLE = {
         "own br is high": standard(3),
         "own bbsy is high": standard(3),
     }),
-    "G12": Rule("bgout+", "A grant chain rises from its beginning onward.", {
+    "G12": Rule("bgout+", "A grant chain rises board by board, from its beginning.", {
         "own grant-in is high": standard(3),
     }),
     "G13": Rule("bbsy-", "A requester takes the grant that reaches it.", {
         "own grant-in is low": standard(3),
-        "own bgout is high": profile("what was passed on is lost"),
-        "own br is low": profile("that it asks is seen on its own wire"),
+        "own bgout is high": profile("a grant that was passed on cannot be taken"),
+        "own br is low": profile("the request must be visible on the board's own BR*"),
     }),
-    "G14": Rule("bbsy+", "An owner gives the bus up once its last transfer has begun and no old grant is left; "
+    "G14": Rule("bbsy+", "An owner releases the bus once its last transfer has begun and no old grant is left; "
                          "with ROR, only while a board requests the bus.", {
-        "own br is high": profile("its own request is over by then"),
-        "own grant-in is high": profile("the grant that it took is gone by then"),
+        "own br is high": profile("the owner has ended its own request by then"),
+        "own grant-in is high": profile("the grant that the owner took has ended by then"),
         "own addr is off or own as is low": standard(3),
         "some BR line is low": standard(3),
     }),
-    "G15": Rule("addr- v", "The owner begins a cycle once the one before has ended; with RWD within its burst; "
-                           "and it acknowledges what it handles and what is requested.", {
+    "G15": Rule("addr- v", "The owner begins a cycle once the one before has ended; with RWD, only within its burst; "
+                           "and it acknowledges only what it handles and what is requested.", {
         "own bbsy is low": standard(3),
         "AS* is high": standard(2),
-        "fewer cycles than the burst": profile("the scenario bounds the cycles of a tenure"),
+        "fewer cycles than the burst": profile("the scenario limits the cycles of a tenure"),
         "the board handles level N": standard(4),
-        "IRQN* is low": profile("the request is still there when the cycle begins"),
+        "IRQN* is low": profile("the interrupt is still requested when the cycle begins"),
     }),
-    "G16": Rule("as-", "The address strobe says that the address is good.", {
+    "G16": Rule("as-", "The address strobe says that the address is valid.", {
         "own addr is on": standard(2),
         "AS* is high": standard(2),
     }),
-    "G17": Rule("ds-", "A data strobe waits until the last answer is gone, and comes once in a cycle.", {
+    "G17": Rule("ds-", "A data strobe waits until the last answer has ended, and falls once in a cycle.", {
         "own as is low": standard(2),
         "own addr is on": standard(2),
         "DTACK* is high": standard(2),
         "BERR* is high": standard(2),
         "no own ds- in this cycle": profile("block and read-modify-write cycles are left out"),
     }),
-    "G18": Rule("ds+", "A data strobe stands until it is answered.", {
+    "G18": Rule("ds+", "A data strobe stays asserted until it is answered.", {
         "DTACK* or BERR* is low": standard(2),
     }),
-    "G19": Rule("addr+", "The address goes off once its one transfer is over.", {
+    "G19": Rule("addr+", "The address goes off once its only transfer is over.", {
         "own as is low": profile("the address goes off before AS* rises"),
         "own ds is high": profile("address pipelining is left out"),
         "an own ds- in this cycle": profile("address-only cycles are left out"),
@@ -132,8 +132,8 @@ TABLE = {
     "G20": Rule("as+", "A cycle ends once its address is off.", {
         "own addr is off": profile("the address goes off before AS* rises"),
     }),
-    "G21": Rule("irq-", "An interrupt request may come at any time.", {}),
-    "G22": Rule("irq+", "An interrupt request stands until it is served: with ROAK by an acknowledge, with RORA by an access.", {
+    "G21": Rule("irq-", "A board may request an interrupt at any time.", {}),
+    "G22": Rule("irq+", "An interrupt request stays asserted until it is served: with ROAK by an acknowledge, with RORA by an access.", {
         "the request was served by an acknowledge": standard(4),
         "the request was served by an access": standard(4),
     }),
@@ -152,25 +152,25 @@ TABLE = {
         "DS0* is low": standard(2, 4),
         "AS* is low": standard(2),
         "own iackin is low": standard(4),
-        "own iackout is high": profile("what was passed on is lost"),
+        "own iackout is high": profile("an acknowledge that was passed on cannot be answered"),
         "pending at level N": standard(4),
         "the own slot is shown": standard(2),
         "a cycle is shown": standard(2),
     }),
-    "G26": Rule("dtack+", "An answer stands until the master has seen it.", {
+    "G26": Rule("dtack+", "An answer stays asserted until the master has seen it.", {
         "DS0* is high": standard(2),
     }),
-    "S1": Rule("as-", "No cycle begins before the IACK chain of the last one is high again.", {
-        "iack and every iackout are high": standard(4, why="it stands for a minimum time"),
+    "S1": Rule("as-", "No cycle begins until the IACK chain of the last cycle is high again.", {
+        "iack and every iackout are high": standard(4, why="it takes the place of a minimum time"),
     }),
-    "S2": Rule("c berr-", "The bus timer waits until nobody is left to answer.", {
-        "nobody can answer": profile("the standard's bus timer counts time alone"),
+    "S2": Rule("c berr-", "The bus timer waits until no board is left that can answer.", {
+        "nobody can answer": profile("the standard's bus timer measures time only"),
     }),
     "S3": Rule("c bgN+", "Version 2: a grant times out only when it has passed every board.", {
-        "the grant has passed the last board": profile("it stands for a time of version 2"),
+        "the grant has passed the last board": profile("it takes the place of a time of version 2"),
     }),
-    "S4": Rule("c bgN-", "Version 2: a new grant does not follow one that is still rising.", {
-        "every bgout is high": profile("it stands for a time of version 2"),
+    "S4": Rule("c bgN-", "Version 2: a new grant waits until the last one has risen at every board.", {
+        "every bgout is high": profile("it takes the place of a time of version 2"),
     }),
     "E5": Rule("any", "A trace has at most 1,048,576 accepted edges.", {"the trace has room": None}),
 }

@@ -29,6 +29,7 @@ COMMANDS = {
     "races": (2, 2, ("--edge", "--other")),
     "same": (3, 3, ()),
     "order": (2, 2, ("--slack", "--where", "--progress")),
+    "probe": (2, 2, ()),
     "rule": (0, 1, ()),
     "drive": (1, 1, ("--edges", "--version", "--seed", "--seeds", "--until", "--of", "--after", "--progress")),
     "run": (1, 1, ("--edges", "--turns", "--version")),

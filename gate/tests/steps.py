@@ -13,7 +13,7 @@ from pathlib import Path
 
 TOP = Path(__file__).resolve().parents[2]
 TOTAL = re.compile(r"\n(\d+) passed, (\d+) failed\n\Z")
-STEPS = 27
+STEPS = 28
 PASSES = "1 passed, 0 failed"
 
 # What stands in for each tool. It notes its call, and the tool that $TOOL names does what $DOES says. It begins no process.

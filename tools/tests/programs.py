@@ -80,6 +80,18 @@ class Programs(unittest.TestCase):
             program.program.cache_clear()
             self.assertEqual(program.program(), str(built))
 
+    def test_unproved(self) -> None:
+        """A program is unproved if ./try of any folder keeps it, if it is a copy of what this one keeps, or if it is a ./try."""
+        kept, copied, other = self.script("kept"), self.script("copied"), self.script("other", "exit 7")
+        elsewhere = self.room / "crates/vmebus/out/try/vmebus-0"
+        elsewhere.parent.mkdir(parents=True)
+        shutil.copy(other, elsewhere)
+        ours = kept.with_name("vmebus-1")
+        kept.rename(ours)
+        for path, wanted in ((ours, True), (copied, True), (other, False), (elsewhere, True), (Path(program.UNPROVED), True)):
+            with self.subTest(path), mock.patch.multiple(program, KEPT=str(ours.parent), program=lambda: str(path)):
+                self.assertEqual(program.is_unproved(), wanted)
+
     def test_arguments_and_input(self) -> None:
         ran = self.ran('printf "%s;" "$@"; cat; echo said >&2; exit 2', "a b", "", "<&\n", input=b"vme 1\n\xff")
         self.assertEqual(ran, Ran(2, "a b;;<&\n;vme 1\n\udcff", "said\n"))

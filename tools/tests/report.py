@@ -12,6 +12,7 @@ import sys
 import tempfile
 import unittest
 import xml.etree.ElementTree as tree
+from dataclasses import replace
 from datetime import datetime, timezone
 from html.parser import HTMLParser
 from pathlib import Path
@@ -175,7 +176,7 @@ class Reports(Small):
         """A small file of JUnit XML, byte for byte."""
         judged = self.judged("legal.vme", "twice.vme", "broken.vme")
         self.assertRegex(judged.version, r"^vmebus \d+\.\d+\.\d+$")
-        self.assertEqual(junit(judged, MOMENT, 0.25), SMALL_JUNIT.replace("VERSION", judged.version))
+        self.assertEqual(junit(judged, MOMENT, 0.25), SMALL_JUNIT.replace("VERSION", judged.program))
 
     def test_page(self) -> None:
         """The refused edges come first, with their picture, their reasons and their history, and then the rest."""
@@ -209,6 +210,16 @@ class Reports(Small):
         found = self.sound(page(self.judged("legal.vme"), MOMENT))
         self.assertIn("The trace is legal On scenario.toml", found.text)
         self.assertEqual(found.values("id"), ["exercised", "legal"])
+
+    def test_program_of_try(self) -> None:
+        """A program that lies where ./try keeps its own is called unproved in both files."""
+        kept = self.room / "crates/vmebus/out/try/vmebus-0123"
+        kept.parent.mkdir(parents=True)
+        shutil.copy(os.environ["VMEBUS_PROGRAM"], kept)
+        status, out, said = self.call("scenario.toml", "legal.vme", "--junit", "a.xml", env={**os.environ, "VMEBUS_PROGRAM": str(kept)})
+        self.assertEqual((status, said), (0, "report: 1 legal, 0 refused, 0 faults of 1 trace\n"))
+        self.assertIn("./try built the program that judged these traces: it is not proved.", self.sound(out).text)
+        self.assertIn(', unproved"/>', (self.room / "a.xml").read_text())
 
     def test_fault_beside(self) -> None:
         """A trace with a fault is an error, and the others are judged."""
@@ -330,7 +341,7 @@ class Statuses(Small):
     def test_help(self) -> None:
         status, out, said = self.call("--help")
         self.assertEqual((status, said), (0, ""))
-        for part in ("SCENARIO TRACE..", "--junit FILE", "status is 0", "2 if one has a refused edge", "It is 1"):
+        for part in ("SCENARIO TRACE..", "--junit FILE", "status is 0", "2 if one has a refused edge", "It is 1", "unproved", "tools/report examples/"):
             self.assertIn(part, out)
 
     def test_changed(self) -> None:
@@ -463,7 +474,7 @@ class Parts(unittest.TestCase):
         return Refused(3, "1 br-", verdict, f"3 1 br- {verdict}\nfails {condition}\n", None, "", None)
 
     def judged(self, *outcomes: object) -> Judged:
-        return Judged("s", tuple(Trace(f"t{place}", it) for place, it in enumerate(outcomes)), (), None, (), "vmebus 2.0.0")
+        return Judged("s", tuple(Trace(f"t{place}", it) for place, it in enumerate(outcomes)), (), None, (), "vmebus 2.0.0", False)
 
     def test_causes(self) -> None:
         """The cause of most traces comes first, and of as many the one that came first."""
@@ -485,6 +496,15 @@ class Parts(unittest.TestCase):
         judged = self.judged(self.refused("E2", "a"))
         self.assertIn("None was found within 10 seconds", page(judged, MOMENT))
         self.assertIn("\nno short history within 10 seconds\n", junit(judged, MOMENT, 0))
+
+    def test_unproved(self) -> None:
+        """Both files say of a program of ./try that it is unproved, and of another nothing."""
+        proved = self.judged(Legal(1))
+        unproved = replace(proved, is_unproved=True)
+        for judged, wanted in ((proved, "vmebus 2.0.0"), (unproved, "vmebus 2.0.0, unproved")):
+            self.assertIn(f"by {wanted}, 2026-12-01", page(judged, MOMENT))
+            self.assertIn(f'name="version" value="{wanted}"', junit(judged, MOMENT, 0))
+            self.assertEqual("./try built the program" in page(judged, MOMENT), judged.is_unproved)
 
     def test_long_history(self) -> None:
         """A long history has its header, its end, and how many edges were left out between."""

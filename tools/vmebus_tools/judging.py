@@ -21,7 +21,7 @@ from typing import Dict, Iterator, Optional, Sequence, Tuple, Union
 from . import reading
 from .drawing import Story, picture
 from .pictures import answer, ask, head_of
-from .program import Fault, Ran, program, run
+from .program import Fault, Ran, is_unproved, program, run
 from .sums import Sums, sums
 
 # How many edges the picture of a refused edge has before it and behind it.
@@ -114,7 +114,10 @@ class Rule:
 
 @dataclass(frozen=True)
 class Judged:
-    """What the program said about a scenario and all traces. There is no summary, and no sums of it, if every trace has a fault."""
+    """What the program said about a scenario and all traces. There is no summary, and no sums of it, if every trace has a fault.
+
+    `is_unproved` says that ./try built the program.
+    """
 
     scenario: str
     traces: Tuple[Trace, ...]
@@ -122,6 +125,12 @@ class Judged:
     sums: Optional[Sums]
     rules: Tuple[Rule, ...]
     version: str
+    is_unproved: bool
+
+    @property
+    def program(self) -> str:
+        """What judged the traces: the program's version, and whether it is known to be unproved."""
+        return f"{self.version}, unproved" if self.is_unproved else self.version
 
     def refused(self) -> Sequence[Tuple[Trace, Refused]]:
         """The traces with a refused edge."""
@@ -187,7 +196,7 @@ class Judging:
         with reading_program(summed.result()):
             found = sums(summary) if summary else None
         rules, version = (it.result().out for it in texts)
-        return Judged(self.scenario, traces, summary, found, rules_of(rules), version.strip())
+        return Judged(self.scenario, traces, summary, found, rules_of(rules), version.strip(), is_unproved())
 
     def faults(self, ran: Ran) -> Dict[int, Faulty]:
         """The fault of each trace that has one; a fault of the scenario or of the call is raised."""

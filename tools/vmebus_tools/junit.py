@@ -24,7 +24,7 @@ def junit(judged: Judged, moment: datetime, seconds: float) -> str:
         "<testsuites>",
         f'  <testsuite id="0" package="{CLASS}" name="{escaped(judged.scenario)}" {counts} {when}>',
         "    <properties>",
-        f'      <property name="version" value="{escaped(judged.version)}"/>',
+        f'      <property name="version" value="{escaped(judged.program)}"/>',
         "    </properties>",
         *(line for trace in judged.traces for line in case(trace)),
         f"    <system-out>{text(judged.summary)}</system-out>",

@@ -24,6 +24,7 @@ BOARD_COLUMNS = {
 # How `explain` marks a condition that is not the standard's.
 PROFILE = " (profile)"
 NO_NETWORK = "default-src 'none'; style-src 'unsafe-inline'"
+UNPROVED = "./try built the program that judged these traces: it is not proved. ./build proves it."
 
 
 @dataclass(frozen=True)
@@ -95,7 +96,9 @@ def verb(count: int) -> str:
 def header(judged: Judged, title: str, moment: datetime) -> Iterator[str]:
     """The headline, what was judged, and how many traces came to what."""
     yield f"<header>\n<h1>{escaped(title)}</h1>"
-    yield f'<p class="muted">On {name(judged.scenario)}, by {escaped(judged.version)}, {moment:%Y-%m-%d %H:%M} UTC</p>'
+    yield f'<p class="muted">On {name(judged.scenario)}, by {escaped(judged.program)}, {moment:%Y-%m-%d %H:%M} UTC</p>'
+    if judged.is_unproved:
+        yield f'<p class="amber">{UNPROVED}</p>'
     yield '<ul class="tiles">'
     yield tile(len(judged.refused()), "refused", "refused")
     yield tile(len(judged.faults()), "faulty", "with a fault")
@@ -238,7 +241,8 @@ def exercised(judged: Judged) -> Iterator[str]:
     yield '<div class="never-list">'
     yield f"<p><b>Rules by which no edge was accepted:</b> {listed(found.never_accepted)}</p>"
     yield f"<p><b>Events that did not occur:</b> {listed(found.never_met)}</p>"
-    yield '<p class="muted">A scenario may leave no edge for a rule, such as G3 and G4 without a PRI arbiter.</p></div>'
+    yield '<p class="muted">A scenario may leave no edge for a rule, such as G3 and G4 without a PRI arbiter, or for an event: '
+    yield "<code>vmebus drive</code> with <code>--seeds</code> and <code>--until</code> looks for one.</p></div>"
     yield from table_of_rules(found, judged.rules)
     yield from table_of_events(found)
     yield from table_of_boards(found)

@@ -7,6 +7,8 @@ the program without proofs at its first call.
 
 from __future__ import annotations
 
+import filecmp
+import fnmatch
 import functools
 import glob
 import os
@@ -20,6 +22,8 @@ BUILT = os.path.join(TOP, "crates", "vmebus", "out", "vmebus")
 UNPROVED = os.path.join(TOP, "try")
 # The folder in which ./try keeps the one program that it has built last.
 KEPT = os.path.join(TOP, "crates", "vmebus", "out", "try")
+# How the path of a program ends that ./try of any folder keeps.
+OF_KEPT = "*/crates/vmebus/out/try/vmebus-*"
 # How the lines of ./try begin, which are not the program's.
 OF_TRY = "try: "
 
@@ -67,8 +71,29 @@ def program() -> str:
     build = subprocess.run([found, "--version"], stdin=subprocess.DEVNULL, stdout=subprocess.DEVNULL)
     if build.returncode:
         raise Fault("./try cannot build the program, and there is no other")
-    kept = glob.glob(os.path.join(glob.escape(KEPT), "vmebus-*"))
+    kept = kept_by_try()
     return kept[0] if len(kept) == 1 else found
+
+
+def kept_by_try() -> Sequence[str]:
+    """The programs that ./try of this folder keeps."""
+    return glob.glob(os.path.join(glob.escape(KEPT), "vmebus-*"))
+
+
+def is_unproved() -> bool:
+    """Whether the program is ./try, what that keeps, or a copy of it. Of another program nobody can tell."""
+    path = os.path.realpath(program())
+    if os.path.basename(path) == "try" or fnmatch.fnmatch(path, OF_KEPT):
+        return True
+    return any(is_same_file(path, it) for it in kept_by_try())
+
+
+def is_same_file(one: str, other: str) -> bool:
+    """Whether two files have the same bytes; one that is gone by now has none."""
+    try:
+        return filecmp.cmp(one, other, shallow=False)
+    except OSError:
+        return False
 
 
 def find() -> str:

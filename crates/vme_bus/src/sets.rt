@@ -77,7 +77,7 @@ impl SlotSet {
     /// The slots that both hold.
     #[inline(always)]
     #[tactic(auto, using(crate::proofs::Masks::and_bits))]
-    pub(crate) fn and(self, other: SlotSet) -> SlotSet
+    pub fn and(self, other: SlotSet) -> SlotSet
         ensures { (s : ℕ) → has result s ≡ (has self s && has other s) }
     {
         SlotSet {
@@ -99,7 +99,7 @@ impl SlotSet {
     /// The slots that it holds and the other does not.
     #[inline(always)]
     #[tactic(auto, using(crate::proofs::Masks::except_bits))]
-    pub(crate) fn except(self, other: SlotSet) -> SlotSet
+    pub fn except(self, other: SlotSet) -> SlotSet
         ensures { (s : ℕ) → has result s ≡ (has self s && not (has other s)) }
     {
         SlotSet {

@@ -13,7 +13,7 @@ use Rattle.vme_command_line.specs.Aims.{IsNameOf, NamesNobody}
 use Rattle.vme_command_line.specs.Alone.{aim_named}
 use Rattle.vme_command_line.specs.Commands.{commands}
 use Rattle.vme_command_line.specs.declared.Job.{Job}
-use Rattle.vme_command_line.specs.declared.Job.TheVariants.{Joined, OwnVersion, Replay, Check, Checks, Explain, Shrink, Rules, State, Show, Cycles, Summary, Sums, Races, Walk, OtherOrder, Same, Order, Drive, Draw, Search, Run}
+use Rattle.vme_command_line.specs.declared.Job.TheVariants.{Joined, OwnVersion, Replay, Check, Checks, Explain, Shrink, Rules, State, Show, Cycles, Summary, Sums, Races, Walk, OtherOrder, Same, Order, Probe, Drive, Draw, Search, Run}
 use Rattle.vme_command_line.specs.Limits.{IsNoWindow}
 use Rattle.vme_moments.specs.declared.slacks.Slacks.{Slacks}
 use Rattle.vme_rulebook.specs.declared.Entry.{Entry}
@@ -176,6 +176,8 @@ AsksFor name rows (Same scenario trace other) = (name ≡ codes "same")
 AsksFor name rows (Order scenario moments slacks places progress) = (name ≡ codes "order")
     × IsFile (codes "SCENARIO") rows scenario.now × IsFile (codes "MOMENTS") rows moments.now
     × AreTheSlacks rows slacks × IsFlag (codes "where") rows places × IsProgress rows progress
+AsksFor name rows (Probe scenario capture) = (name ≡ codes "probe")
+    × IsFile (codes "SCENARIO") rows scenario.now × IsFile (codes "CAPTURE") rows capture.now
 AsksFor name rows (Drive scenario edges version) = (name ≡ codes "drive")
     × IsFile (codes "SCENARIO") rows scenario.now × AreOptions rows edges version
     × (spelled (codes "seed") rows ≡ None) × (first_of (codes "seeds") rows ≡ None)

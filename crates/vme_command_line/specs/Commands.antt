@@ -148,6 +148,9 @@ abbrev pub order : Shape
 order =
     (leaf (codes "order") (file (codes "MOMENTS") ∷ slack ∷ places ∷ progress ∷ [])).top
 
+abbrev pub probe : Shape
+probe = (leaf (codes "probe") (file (codes "CAPTURE") ∷ [])).top
+
 abbrev pub drive : Shape
 drive =
     (leaf (codes "drive")
@@ -165,5 +168,5 @@ commands = record {
   };
   subs =
       replay ∷ check ∷ explain ∷ shrink ∷ rule ∷ state ∷ show ∷ cycles ∷ summary ∷ races ∷ same
-      ∷ order ∷ drive ∷ run ∷ [];
+      ∷ order ∷ probe ∷ drive ∷ run ∷ [];
 }

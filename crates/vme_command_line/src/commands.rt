@@ -45,6 +45,13 @@ fn moments_file<'a>(alloc: Global) -> Arg<'a>
     file(alloc, "MOMENTS", help)
 }
 
+fn capture_file<'a>(alloc: Global) -> Arg<'a>
+    ensures { rule_of result ≡ said.file (codes "CAPTURE") }
+{
+    let help = "What an analyser saw, one change per line, below its moment";
+    file(alloc, "CAPTURE", help)
+}
+
 /// The argument for the name of a rule or another code, which may be left out.
 fn rule_name<'a>(alloc: Global) -> Arg<'a>
     ensures { rule_of result ≡ said.word (codes "NAME") }
@@ -400,6 +407,13 @@ pub(crate) fn order<'a>(alloc: Global) -> Result<Command<'a>, AllocError>
     taking(command, progress_option(alloc, PROGRESS))
 }
 
+fn probe<'a>(alloc: Global) -> Result<Command<'a>, AllocError>
+    ensures { IfOk result (λ c. shape_of c ≡ said.probe) }
+{
+    let command = command(alloc, "probe", PROBE, PROBE_USAGE, PROBE_EXAMPLE);
+    taking(command, capture_file(alloc))
+}
+
 /// The command `drive`.
 pub(crate) fn drive<'a>(alloc: Global) -> Result<Command<'a>, AllocError>
     ensures { IfOk result (λ c. shape_of c ≡ said.drive) }
@@ -467,6 +481,7 @@ pub(crate) fn commands<'a>(alloc: Global) -> Result<Command<'a>, AllocError>
     let program = offering(program, races(alloc));
     let program = offering(program, same(alloc));
     let program = offering(program, order(alloc));
+    let program = offering(program, probe(alloc));
     let program = offering(program, drive(alloc));
     offering(program, run(alloc))
 }

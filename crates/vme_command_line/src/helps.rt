@@ -17,8 +17,8 @@ start from.
 
 Exit status: 0 done; 1 a fault (one line on standard error), or a text such as this one, which
 goes to standard error, too (`vmebus --help 2>&1 | less`); 2 some edge was refused, no order of
-moments is legal, or two traces differ; 3 the limit of edges was reached, or `--until` did not
-come to its event. Under `set -e` the statuses 2 and 3 end a script.
+moments is legal, two traces differ, or a capture is impossible; 3 the limit of edges was reached,
+or `--until` did not come to its event. Under `set -e` the statuses 2 and 3 end a script.
 
 A code such as G13 or X2: `vmebus rule CODE` explains it.";
 
@@ -338,6 +338,50 @@ longer. If none of them reaches N, it may start once more at length 1, and keeps
 
 Example:
   vmebus order board.toml seen.vme --slack c=2 > tenure.vme
+
+A code such as G13 or X2: `vmebus rule CODE` explains it.";
+
+pub(crate) const PROBE: &str =
+    "Says who may have driven what an analyser saw, and whether the rules allow it";
+
+pub(crate) const PROBE_USAGE: &str = "vmebus probe <SCENARIO> <CAPTURE>";
+
+pub(crate) const PROBE_EXAMPLE: &str =
+    "An analyser sees the lines that all boards share, and perhaps some pins of the daisy chains. It
+does not see who drives them. CAPTURE has these lines, in this order:
+  vme 1               or `vme 2`: the version of the rules
+  pin 4 BG3IN         this pin of slot 4 is probed, too; one line for each such pin
+  running             the bus was running at the beginning; otherwise it was at power-up
+  low BR3             this line or pin was low then; one line for each
+  @120                a moment, a number that may not fall; below it come its changes
+  BR3-                BR3* fell; BR3+ if it rose. So for BR0 to BR3, IRQ1 to IRQ7, BBSY, DS, DTACK,
+                      BERR and BCLR, and for a pin, as in 4 BG3IN-
+  AS- r3              AS* fell, and the address was that of slot 3; `AS- r` if the slot is not
+                      known, `AS- i6` for an acknowledge of level 6; AS+ if it rose
+  DTACK- 64           DTACK* fell with the status byte 64; DTACK- if the byte is not known
+The changes happened in the order of their lines. DS is low while DS0* or DS1* is.
+
+For each change it prints `@N CHANGE by D ..`: N is its moment, and each D a driver that may have
+made it, c or a slot. At the end of the capture come these lines:
+  possible E                 a bus that keeps the rules can show its E changes
+  holder D ..                who may have the bus, or none
+  grant bgN at S, ..         where a grant may stand; none if there may be none
+  shown V by D ..            what AS* fell with, and who may drive it; none while AS* is high
+  BR3 low by D ..            who may drive a request line that is low; so for IRQ1 to IRQ7
+  may come CHANGE by D ..    a change that may come next, and who may make it
+If no such bus can show a change, these lines come in their place, and nothing is read after it:
+  @N CHANGE by none
+      D RULE CONDITION       for each driver of that line or pin: what stood in its way
+  impossible @N              or `impossible @N by our rules alone` if what stood in the way of one
+                             of them is marked ` (profile)`: it is stricter than the standard
+If it cannot have begun with those `low` lines, the only line is `impossible running`. `by` may name
+a driver too many. It is meant never to leave one out, nor `impossible` to be wrong: docs/PROBE.md
+says how far this is proved, and describes captures and each line. The exit status is 0 if the
+capture is possible, 2 if it is impossible, and 1 at a fault; what was judged before a fault is
+printed.
+
+Example:
+  vmebus probe board.toml hang.cap
 
 A code such as G13 or X2: `vmebus rule CODE` explains it.";
 

@@ -18,6 +18,7 @@ mod errors;
 mod helps;
 mod mistakes;
 mod names;
+mod probes;
 mod races;
 mod same;
 mod slacks;
@@ -201,6 +202,14 @@ pub enum Job<'a> {
         places: bool,
         /// Whether it is reported how far the search came.
         progress: bool,
+    },
+    /// Say whether a bus that keeps the rules can show what an analyser saw, and who may have driven
+    /// it.
+    Probe {
+        /// The file of the boards.
+        scenario: &'a str,
+        /// The file of the capture.
+        capture: &'a str,
     },
     /// Let the drivers make edges in turn.
     Drive {

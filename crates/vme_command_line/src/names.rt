@@ -8,6 +8,7 @@ ghost use Rattle.vme_command_line.specs.Asked.{AsksFor, IsFile};
 ghost use Rattle.vme_command_line.specs.Limits.{IsWithin};
 ghost use Rattle.vme_command_line.specs.Unfits.{IsUnfit};
 
+use crate::probes::probe_of;
 use crate::races::races_of;
 use crate::same::same_of;
 use crate::{
@@ -17,7 +18,8 @@ use crate::{
 use clap::ArgMatches;
 use std::alloc::Global;
 
-/// The job for the name of a command that compares orders of edges, or finds one.
+/// The job for the name of a command that compares orders of edges, finds one, or says who may have
+/// made changes.
 fn comparing_job<'a>(
     name: &str,
     scenario: &'a str,
@@ -32,6 +34,7 @@ fn comparing_job<'a>(
         "races" => races_of(scenario, operands),
         "same" => same_of(scenario, operands),
         "order" => order_of(scenario, operands),
+        "probe" => probe_of(scenario, operands),
         _ => Err(Unfit::Missing),
     }
 }

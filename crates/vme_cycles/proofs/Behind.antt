@@ -16,7 +16,7 @@ use Rattle.vme_explain.specs.Marked.{IsMarksOf}
 use Rattle.vme_explain.specs.Traced.{OfTrace}
 use Rattle.vme_explain.proofs.Witnessed.{cycles_within}
 use Rattle.vme_engines.specs.declared.following.Following.{Following}
-use Rattle.vme_engines.specs.Outcomes.{bench}
+use Rattle.vme_reading.specs.Outcomes.{bench}
 use Rattle.vme_engines.specs.Followed.{IsAfter}
 use Rattle.vme_engines.proofs.FollowedEdges.{edges_on, kept_plan}
 

@@ -12,16 +12,16 @@ use Rattle.vme_trace.specs.declared.Fault.{Fault}
 use Rattle.vme_trace.specs.declared.Fault.TheVariants.{Write}
 use Rattle.vme_trace.specs.Writing.{AppendsFront}
 use Rattle.vme_trace.proofs.WrittenLines.{second_front}
-use Rattle.vme_engines.specs.declared.Status.{Status}
-use Rattle.vme_engines.specs.declared.EngineFault.TheVariants as fault
-use Rattle.vme_engines.specs.Streams.{streams}
-use Rattle.vme_engines.specs.Outcomes.{bench, refused_count, status_with}
-use Rattle.vme_engines.specs.Pieces.{Came}
-use Rattle.vme_engines.specs.Readings.{LeavesNow}
-use Rattle.vme_engines.specs.Steps.{traced}
-use Rattle.vme_engines.proofs.ReadOn.{came_begins}
-use Rattle.vme_engines.proofs.Waits.{waits_now}
-use Rattle.vme_engines.proofs.WrittenLines.{front_behind, front_kept, front_of_more}
+use Rattle.vme_reading.specs.declared.Status.{Status}
+use Rattle.vme_reading.specs.declared.EngineFault.TheVariants as fault
+use Rattle.vme_reading.specs.Streams.{streams}
+use Rattle.vme_reading.specs.Outcomes.{bench, refused_count, status_with}
+use Rattle.vme_reading.specs.Pieces.{Came}
+use Rattle.vme_reading.specs.Readings.{LeavesNow}
+use Rattle.vme_reading.specs.Steps.{traced}
+use Rattle.vme_reading.proofs.ReadOn.{came_begins}
+use Rattle.vme_reading.proofs.Waits.{waits_now}
+use Rattle.vme_reading.proofs.WrittenLines.{front_behind, front_kept, front_of_more}
 use Rattle.vme_cycles.specs.Outcomes.{Reports, cycles_text, ending, last_lines, edge_lines, lines_by}
 use Rattle.vme_cycles.specs.declared.tracking.Tracking.{Tracking}
 use Rattle.vme_cycles.specs.Kept.{IsTracked, next_lines}

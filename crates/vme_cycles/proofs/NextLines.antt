@@ -12,9 +12,9 @@ use Rattle.vme_model.specs.Deliveries.{answer}
 use Rattle.vme_model.specs.Numbered.{Numbered, numbered, numbered_on, numbered_with}
 use Rattle.vme_trace.specs.Writing.{AppendsFront}
 use Rattle.vme_trace.proofs.WrittenLines.{Wrote, wrote_all, wrote_front}
-use Rattle.vme_engines.specs.Outcomes.{bench}
+use Rattle.vme_reading.specs.Outcomes.{bench}
 use Rattle.vme_engines.proofs.FollowedEdges.{kept_plan, next_list, numbered_append}
-use Rattle.vme_engines.proofs.WrittenLines.{kept_append}
+use Rattle.vme_reading.proofs.WrittenLines.{kept_append}
 use Rattle.vme_cycles.specs.Transactions.{ended_line, line_at, lines_on, refused_text}
 use Rattle.vme_cycles.specs.Outcomes.{lines_by}
 use Rattle.vme_cycles.specs.Kept.{next_line, next_lines}

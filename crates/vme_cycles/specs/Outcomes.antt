@@ -7,10 +7,10 @@ use Rattle.vme_model.specs.Plan.{Plan}
 use Rattle.vme_model.specs.Numbered.{numbered}
 use Rattle.vme_model.specs.Text.{Reading, TextFault, read_of}
 use Rattle.vme_trace.specs.declared.Fault.TheVariants.{Write}
-use Rattle.vme_engines.specs.declared.EngineFault.TheVariants as fault
-use Rattle.vme_engines.specs.Streams.{Streams, IsInput, IsReadOut, Wrote, WroteFront}
-use Rattle.vme_engines.specs.Outcomes.{Answer, bench, refused_count, status_of}
-use Rattle.vme_engines.specs.Waiting.{StopsWaiting}
+use Rattle.vme_reading.specs.declared.EngineFault.TheVariants as fault
+use Rattle.vme_reading.specs.Streams.{Streams, IsInput, IsReadOut, Wrote, WroteFront}
+use Rattle.vme_reading.specs.Outcomes.{Answer, bench, refused_count, status_of}
+use Rattle.vme_reading.specs.Waiting.{StopsWaiting}
 use Rattle.vme_cycles.specs.Transactions.{ended, lines_on, open_lines, totals_text}
 
 -- the lines at the edges of a trace of this version

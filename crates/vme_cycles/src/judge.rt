@@ -3,9 +3,9 @@ ghost use Rattle.std.specs.Prelude.{◌≡◌, ◌++◌, IfErr, IfOk, OnErr, OnO
 ghost use Rattle.std.specs.Io.KnownBytes.{Appends};
 ghost use Rattle.vme_model.specs.Numbered.{numbered};
 ghost use Rattle.vme_trace.specs.Writing.{AppendsFront};
-ghost use Rattle.vme_engines.specs.Streams.{ReadNothing, WroteNothing, streams};
-ghost use Rattle.vme_engines.specs.Outcomes.{LentAsking, bench, refused_count, status_with};
-ghost use Rattle.vme_engines.specs.Steps.{traced};
+ghost use Rattle.vme_reading.specs.Streams.{ReadNothing, WroteNothing, streams};
+ghost use Rattle.vme_reading.specs.Outcomes.{LentAsking, bench, refused_count, status_with};
+ghost use Rattle.vme_reading.specs.Steps.{traced};
 ghost use Rattle.vme_cycles.specs.Transactions.{cycle_begun, open_cycle_line, open_lines, open_tenure_line, tenure_begun};
 ghost use Rattle.vme_cycles.specs.Outcomes.{Reports, ReportsInput, last_lines, lines_by};
 ghost use Rattle.vme_cycles.specs.Kept.{IsTracked, OfTracked};
@@ -16,8 +16,8 @@ use arrayvec::ArrayVec;
 use std::alloc::Global;
 use std::io::{Read, Write};
 use vme_bus::Bus;
-use vme_engines::{EngineFault, Judge, Status, read};
 use vme_model::{Driver, Edge, Wire};
+use vme_reading::{EngineFault, Judge, Status, read};
 use vme_trace::{Fault, flush, put};
 
 /// The status of a trace with so many refused edges.

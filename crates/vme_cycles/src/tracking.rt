@@ -9,7 +9,7 @@ ghost use Rattle.vme_model.specs.Locality.{AreWellFormed};
 ghost use Rattle.vme_model.specs.History.{cycles, shown};
 ghost use Rattle.vme_model.specs.Numbered.{edges_in, numbered};
 ghost use Rattle.vme_trace.specs.Writing.{AppendsFront};
-ghost use Rattle.vme_engines.specs.Outcomes.{bench};
+ghost use Rattle.vme_reading.specs.Outcomes.{bench};
 ghost use Rattle.vme_cycles.specs.Transactions.{cycle_line as cycle_line_of, ended_line, last_on, request_of, tenure_line as tenure_line_of};
 ghost use Rattle.vme_cycles.specs.Kept.{IsTracked, OfTracked, next_line, next_lines};
 

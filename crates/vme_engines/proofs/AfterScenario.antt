@@ -10,13 +10,13 @@ use Rattle.vme_model.specs.Text.{header, read_of, split_lines}
 use Rattle.vme_scenario.specs.Format.{scenario}
 use Rattle.vme_trace.specs.declared.Fault.{Fault}
 use Rattle.vme_trace.specs.Reading as trace
-use Rattle.vme_engines.specs.declared.EngineFault.{EngineFault}
-use Rattle.vme_engines.specs.declared.EngineFault.TheVariants as fault
-use Rattle.vme_engines.specs.Streams.{IsInput}
-use Rattle.vme_engines.specs.Outcomes.{scenario_limit}
-use Rattle.vme_engines.specs.Steps.{IsNoPlan, IsBounded, IsCounted, Comes}
+use Rattle.vme_reading.specs.declared.EngineFault.{EngineFault}
+use Rattle.vme_reading.specs.declared.EngineFault.TheVariants as fault
+use Rattle.vme_reading.specs.Streams.{IsInput}
+use Rattle.vme_reading.specs.Outcomes.{scenario_limit}
+use Rattle.vme_reading.specs.Steps.{IsNoPlan, IsBounded, IsCounted, Comes}
 use Rattle.vme_engines.specs.Front.{IsTextOf, Starts}
-use Rattle.vme_engines.proofs.TraceReads.{whole_input}
+use Rattle.vme_reading.proofs.TraceReads.{whole_input}
 
 -- ---- the scenario as it was held
 

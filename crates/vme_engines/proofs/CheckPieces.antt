@@ -17,24 +17,24 @@ use Rattle.vme_model.specs.Text.{Reading, read_of}
 use Rattle.vme_model.specs.Report.{trace_limit}
 use Rattle.vme_trace.specs.declared.Fault.{Fault}
 use Rattle.vme_trace.specs.declared.Fault.TheVariants.{Header, Line, TooLong, CutOff, Read, Memory, Failed, Write}
-use Rattle.vme_engines.specs.declared.Status.{Status}
-use Rattle.vme_engines.specs.declared.EngineFault.{EngineFault}
-use Rattle.vme_engines.specs.declared.EngineFault.TheVariants as fault
+use Rattle.vme_reading.specs.declared.Status.{Status}
+use Rattle.vme_reading.specs.declared.EngineFault.{EngineFault}
+use Rattle.vme_reading.specs.declared.EngineFault.TheVariants as fault
 use Rattle.vme_engines.specs.declared.checks.Finding.{Finding}
 use Rattle.vme_engines.specs.declared.checks.Finding.TheVariants.{Legal, Illegal}
-use Rattle.vme_engines.specs.Streams.{Streams, streams, ReadNothing, WroteNothing}
-use Rattle.vme_engines.specs.Outcomes.{Answer, LentAsking, bench}
+use Rattle.vme_reading.specs.Streams.{Streams, streams, ReadNothing, WroteNothing}
+use Rattle.vme_reading.specs.Outcomes.{Answer, LentAsking, bench}
 use Rattle.vme_engines.specs.Checking.{or_refusal, first_refusal, refusal_of, finding_line, finding_status, IsFound, IsLegalTrace, FindsNothing, Finds, ChecksInput}
-use Rattle.vme_engines.specs.Steps.{AreAccepted}
+use Rattle.vme_engines.specs.Unrefused.{AreAccepted}
 use Rattle.vme_engines.specs.Recorded.{first_refused_of}
-use Rattle.vme_engines.proofs.WrittenLines.{kept_append}
+use Rattle.vme_reading.proofs.WrittenLines.{kept_append}
 use Rattle.vme_engines.proofs.RecordedLines.{refusals_are}
-use Rattle.vme_engines.specs.Pieces.{Came}
-use Rattle.vme_engines.specs.Begun.{IsUnread}
-use Rattle.vme_engines.specs.Waiting.{StopsWaiting}
-use Rattle.vme_engines.specs.Readings.{LeavesNow, ReadsInput, ReadsLent}
-use Rattle.vme_engines.proofs.ReadOn.{came_begins}
-use Rattle.vme_engines.proofs.Waits.{stops_unread, waits_now}
+use Rattle.vme_reading.specs.Pieces.{Came}
+use Rattle.vme_reading.specs.Begun.{IsUnread}
+use Rattle.vme_reading.specs.Waiting.{StopsWaiting}
+use Rattle.vme_reading.specs.Readings.{LeavesNow, ReadsInput, ReadsLent}
+use Rattle.vme_reading.proofs.ReadOn.{came_begins}
+use Rattle.vme_reading.proofs.Waits.{stops_unread, waits_now}
 
 -- ---- the first refusal
 

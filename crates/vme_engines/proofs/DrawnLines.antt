@@ -13,9 +13,9 @@ use Rattle.vme_goals.specs.declared.goals.Goal.{Goal}
 use Rattle.vme_engines.specs.declared.seeks.Ending.{Ending}
 use Rattle.vme_engines.specs.Seeking.{Ended, missed_by, ends_at, drawn_on, turned, sought}
 use Rattle.vme_engines.specs.Drawing.{ended_lines, missed_of}
-use Rattle.vme_engines.specs.Texts.{IsListed, KeepsListed, lines_made}
+use Rattle.vme_reading.specs.Texts.{IsListed, KeepsListed, lines_made}
 use Rattle.vme_engines.proofs.ListedLines.{IsBefore, itself, before_both, front_later, lines_cut, lines_written, lines_part}
-use Rattle.vme_engines.proofs.WrittenLines.{front_of_more, front_behind, lines_behind}
+use Rattle.vme_reading.proofs.WrittenLines.{front_of_more, front_behind, lines_behind}
 
 -- ---- edges are only added
 

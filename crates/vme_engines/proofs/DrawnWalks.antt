@@ -11,10 +11,10 @@ use Rattle.vme_model.specs.Report.{trace_limit}
 use Rattle.vme_seeds.specs.Walks.{at_start}
 use Rattle.vme_seeds.proofs.Walked.{IsOn}
 use Rattle.vme_goals.specs.declared.goals.Goal.{Goal}
-use Rattle.vme_engines.specs.declared.Status.{Status}
+use Rattle.vme_reading.specs.declared.Status.{Status}
 use Rattle.vme_engines.specs.declared.seeks.Ending.{Ending}
 use Rattle.vme_engines.specs.declared.seeks.Ending.TheVariants.{Over, Came, Missed}
-use Rattle.vme_engines.specs.Outcomes.{bench}
+use Rattle.vme_reading.specs.Outcomes.{bench}
 use Rattle.vme_engines.specs.Drawing.{walk, walk_text, EndsRightly, status_to, Draws, WalksSafely}
 use Rattle.vme_engines.proofs.LegalTrace.{legal_trace}
 use Rattle.vme_engines.proofs.SoughtGoals.{walk_stays, refused_end}

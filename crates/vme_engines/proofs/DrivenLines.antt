@@ -14,9 +14,9 @@ use Rattle.vme_model.specs.Text.{header, text}
 use Rattle.vme_trace.specs.declared.Fault.{Fault}
 use Rattle.vme_trace.specs.declared.Fault.TheVariants.{Write}
 use Rattle.vme_trace.specs.Writing.{AppendsFront, edge_line}
-use Rattle.vme_engines.specs.Texts.{HandsOn, IsListed, KeepsListed, ListsOn, lines_made, trace_made}
+use Rattle.vme_reading.specs.Texts.{HandsOn, IsListed, KeepsListed, ListsOn, lines_made, trace_made}
 use Rattle.vme_engines.specs.Driving.{boards}
-use Rattle.vme_engines.proofs.WrittenLines.{front_of_more, front_behind}
+use Rattle.vme_reading.proofs.WrittenLines.{front_of_more, front_behind}
 use Rattle.vme_engines.proofs.DriveRounds.{later, same_length, rounds_later}
 use Rattle.vme_engines.proofs.ListedLines.{IsBefore, itself, before_both, before_made, before_if, front_later, listed_edge, listed_part, lines_cut, lines_written, lines_part}
 

@@ -18,10 +18,10 @@ use Rattle.vme_explain.specs.declared.marks.Marks.{Marks}
 use Rattle.vme_explain.specs.Marked.{IsMarksOf}
 use Rattle.vme_explain.specs.Traced.{OfTrace}
 use Rattle.vme_engines.specs.declared.following.Following.{Following}
-use Rattle.vme_engines.specs.Outcomes.{bench}
+use Rattle.vme_reading.specs.Outcomes.{bench}
 use Rattle.vme_engines.specs.Checking.{or_refusal, first_refusal}
 use Rattle.vme_engines.specs.Followed.{IsAfter, OfAfter, OfUnasked, ComesTo, counted, printed_behind}
-use Rattle.vme_engines.proofs.WrittenLines.{kept_append}
+use Rattle.vme_reading.proofs.WrittenLines.{kept_append}
 use Rattle.vme_engines.proofs.CheckPieces.{refusal_behind}
 
 -- ---- what stays, and what the numbered edges are

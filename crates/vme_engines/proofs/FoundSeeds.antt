@@ -10,18 +10,18 @@ use Rattle.vme_seeds.specs.Walks.{Walk, at_start}
 use Rattle.vme_seeds.proofs.Walked.{IsOn}
 use Rattle.vme_goals.specs.declared.goals.Goal.{Goal}
 use Rattle.vme_trace.specs.declared.Fault.TheVariants.{Write}
-use Rattle.vme_engines.specs.declared.Status.{Status}
-use Rattle.vme_engines.specs.declared.Status.TheVariants.{Done, Limit}
-use Rattle.vme_engines.specs.declared.EngineFault.{EngineFault}
-use Rattle.vme_engines.specs.declared.EngineFault.TheVariants as fault
+use Rattle.vme_reading.specs.declared.Status.{Status}
+use Rattle.vme_reading.specs.declared.Status.TheVariants.{Done, Limit}
+use Rattle.vme_reading.specs.declared.EngineFault.{EngineFault}
+use Rattle.vme_reading.specs.declared.EngineFault.TheVariants as fault
 use Rattle.vme_engines.specs.declared.seeks.Ending.{Ending}
 use Rattle.vme_engines.specs.declared.seeks.Ending.TheVariants.{Over, Came, Missed}
-use Rattle.vme_engines.specs.Outcomes.{Answer, Lent, bench, scenario_limit}
+use Rattle.vme_reading.specs.Outcomes.{Answer, Lent, bench, scenario_limit}
 use Rattle.vme_engines.specs.Drawing.{walk, walk_text, status_to, Draws, DrawsSafely, WalksSafely}
 use Rattle.vme_engines.specs.Seeking.{is_over, walk_to}
 use Rattle.vme_engines.specs.Found.{Tried, NoneBelow, Attempts, Finds, Found, found_answer}
 use Rattle.vme_engines.proofs.SoughtGoals.{walk_stays}
-use Rattle.vme_engines.proofs.WrittenLines.{front_of_none}
+use Rattle.vme_reading.proofs.WrittenLines.{front_of_none}
 
 -- what is kept, and then kept or grown
 keeps_trans : (a b c : Option (List ℕ)) → Keeps a b → Keeps b c → Keeps a c

@@ -8,8 +8,8 @@ use Rattle.vme_model.specs.Text.{version_of, header}
 use Rattle.std.specs.declared.alloc.AllocError.{AllocError}
 use Rattle.vme_engines.specs.declared.joins.Found.{Found}
 use Rattle.vme_engines.specs.declared.joins.Front.{Front}
-use Rattle.vme_engines.specs.Streams.{streams}
-use Rattle.vme_engines.specs.Outcomes.{Answer}
+use Rattle.vme_reading.specs.Streams.{streams}
+use Rattle.vme_reading.specs.Outcomes.{Answer}
 use Rattle.vme_engines.specs.Joining.{cut, FindsNoTrace, Joins}
 use Rattle.vme_engines.specs.Front.{behind, IsHeld, IsFront, EndsFront, Finds, JoinsBehind}
 use Rattle.vme_engines.proofs.FirstHeader.{cut_part, cut_line, cut_here, behind_behind, unnamed, one_line_more}

@@ -19,7 +19,7 @@ use Rattle.vme_model.proofs.AllowedEdges.{checked}
 use Rattle.vme_model.proofs.Safety.{legal_is_safe}
 use Rattle.vme_trace.specs.Texts.{whole}
 use Rattle.vme_trace.proofs.ReadBack.{text_read}
-use Rattle.vme_engines.specs.Outcomes.{bench}
+use Rattle.vme_reading.specs.Outcomes.{bench}
 use Rattle.vme_engines.specs.Checking.{or_refusal, first_refusal, IsLegalTrace}
 use Rattle.vme_engines.proofs.CheckPieces.{refusal_behind, all_kept}
 

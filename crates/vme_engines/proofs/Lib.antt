@@ -1,35 +1,15 @@
--- lines that are written one after another: src/lines.rt, `drives::write_history`
-pub mod WrittenLines
 -- the answers to edges, and their lines: src/lines.rt, `checks::first_refused_of`
 pub mod RecordedLines
 -- the digits of a number and of the next one: src/counts.rt
 pub mod NextNumber
--- the edges and the version of a trace, as more of it is read: `TraceReads`
-pub mod TraceSoFar
--- what a reader has read can go on, as X5 has it: `TraceReads`, `ReadOn`
-pub mod CanGoOn
--- a trace, read by read: `traces::open`, `readings::read_on`
-pub mod TraceReads
--- every edge of a trace is well formed: `readings::read_on` and its callers
-pub mod FormedEdges
--- what is known of a trace at a read: `readings::read_on`
-pub mod ReadOn
--- the one reading of a trace: src/readings.rt
-pub mod ReadTraces
 -- a replay, piece by piece: src/replays.rt, `joins::replay_behind`
 pub mod ReplayPieces
 -- where the first header line of an input is: `Fronts`
 pub mod FirstHeader
 -- the input before its trace, byte by byte: `Front::take` and `find`, `joins::joined`
 pub mod Fronts
--- where there is no plan, or no header line: `Input::begin`, `readings::read`
-pub mod FirstReads
 -- a trace whose header line was found after a scenario: `joins::start`, `joins::replay_behind`
 pub mod AfterScenario
--- a fault of a trace before what an engine waits for
-pub mod Waits
--- two traces that are read side by side: `Input::read_piece` and `read_out`, src/pairs.rt
-pub mod PairReads
 -- a check, piece by piece: src/checks.rt
 pub mod CheckPieces
 -- a trace that is followed edge by edge: src/following.rt
@@ -66,3 +46,5 @@ pub mod FoundSeeds
 pub mod VerdictEnds
 -- the words of edges that stand in tables: `push_driver`, `push_word`, `push_last_word`
 pub mod EdgeWords
+-- every edge behind a scenario is well formed: src/joins.rt
+pub mod FormedStarts

@@ -9,8 +9,8 @@ use Rattle.vme_model.specs.History.{in_order}
 use Rattle.vme_model.specs.Verdict.{State, made}
 use Rattle.vme_model.specs.Text.{edge_lines}
 use Rattle.vme_trace.specs.Writing.{AppendsFront, edge_line}
-use Rattle.vme_engines.specs.Texts.{HandsOn, IsListed, KeepsListed, lines_made}
-use Rattle.vme_engines.proofs.WrittenLines.{front_of_more, front_behind, line_alone, lines_behind}
+use Rattle.vme_reading.specs.Texts.{HandsOn, IsListed, KeepsListed, lines_made}
+use Rattle.vme_reading.proofs.WrittenLines.{front_of_more, front_behind, line_alone, lines_behind}
 
 -- ---- edges are only added
 

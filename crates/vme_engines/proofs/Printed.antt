@@ -5,7 +5,7 @@ use Rattle.std.specs.List.{list_all}
 use Rattle.std.proofs.lemmas.Bool.{and_parts}
 use Rattle.vme_model.specs.Signals.{is_well_formed}
 use Rattle.vme_model.specs.Locality.{AreWellFormed}
-use Rattle.vme_engines.proofs.FormedEdges.{formed_both}
+use Rattle.vme_reading.proofs.FormedEdges.{formed_both}
 use Rattle.std.proofs.Math.ListN.{length-append}
 use Rattle.std.proofs.Math.Seq.{take-append_seam}
 use Rattle.std.specs.Io.KnownBytes.{Keeps, Appends}
@@ -22,30 +22,30 @@ use Rattle.vme_model.specs.Why.{why_text}
 use Rattle.vme_trace.specs.declared.Fault.{Fault}
 use Rattle.vme_trace.specs.declared.Fault.TheVariants.{Write}
 use Rattle.vme_trace.specs.Writing.{AppendsFront}
-use Rattle.vme_engines.specs.declared.Status.{Status}
-use Rattle.vme_engines.specs.declared.Status.TheVariants.{Done}
+use Rattle.vme_reading.specs.declared.Status.{Status}
+use Rattle.vme_reading.specs.declared.Status.TheVariants.{Done}
 use Rattle.vme_engines.specs.declared.following.Following.{Following}
 use Rattle.vme_engines.specs.declared.following.Found.{Found}
 use Rattle.vme_engines.specs.declared.following.Printed.{Printed}
 use Rattle.vme_engines.specs.declared.following.Printed.TheVariants.{Block, Beyond}
-use Rattle.vme_engines.specs.declared.EngineFault.{EngineFault}
-use Rattle.vme_engines.specs.declared.EngineFault.TheVariants as fault
+use Rattle.vme_reading.specs.declared.EngineFault.{EngineFault}
+use Rattle.vme_reading.specs.declared.EngineFault.TheVariants as fault
 use Rattle.vme_engines.specs.declared.checks.Finding.TheVariants.{Legal}
-use Rattle.vme_engines.specs.Streams.{Streams, streams, WroteNothing}
-use Rattle.vme_engines.specs.Outcomes.{Answer, LentAsking, bench}
+use Rattle.vme_reading.specs.Streams.{Streams, streams, WroteNothing}
+use Rattle.vme_reading.specs.Outcomes.{Answer, LentAsking, bench}
 use Rattle.vme_engines.specs.Checking.{or_refusal, first_refusal, refusal_of, finding_line}
 use Rattle.vme_engines.specs.Explaining.{IsAsked, IsUnasked, edge_status, IsPrinted, Explains}
 use Rattle.vme_engines.specs.Stating.{IsReached, IsAhead, IsStated, States}
-use Rattle.vme_engines.specs.Steps.{Begins}
-use Rattle.vme_engines.specs.Pieces.{Came}
-use Rattle.vme_engines.specs.Begun.{IsUnread}
-use Rattle.vme_engines.specs.Waiting.{StopsWaiting}
-use Rattle.vme_engines.specs.Readings.{LeavesNow, ReadsLent}
+use Rattle.vme_reading.specs.Steps.{Begins}
+use Rattle.vme_reading.specs.Pieces.{Came}
+use Rattle.vme_reading.specs.Begun.{IsUnread}
+use Rattle.vme_reading.specs.Waiting.{StopsWaiting}
+use Rattle.vme_reading.specs.Readings.{LeavesNow, ReadsLent}
 use Rattle.vme_engines.specs.Followed.{IsAfter, IsBehind, IsNext, IsNotBefore, ComesTo, OfAfter, Reaches, Seeks, printed_answer, printed_behind, printed_status, why_behind}
-use Rattle.vme_engines.proofs.ReadOn.{came_begins}
-use Rattle.vme_engines.proofs.Waits.{stops_unread, waits_now}
+use Rattle.vme_reading.proofs.ReadOn.{came_begins}
+use Rattle.vme_reading.proofs.Waits.{stops_unread, waits_now}
 use Rattle.vme_engines.proofs.CheckPieces.{refusal_behind}
-use Rattle.vme_engines.proofs.WrittenLines.{appends_behind, front_after}
+use Rattle.vme_reading.proofs.WrittenLines.{appends_behind, front_after}
 
 -- of a command that prints a block
 pub lent_known : (text : List ℕ) (nothing : Type 0) (Runs : Plan → Answer → Type 0) (r : Result Printed EngineFault) → ReadsLent text nothing (λ p a. Runs p (printed_answer a)) r → LentAsking text nothing Runs (printed_status r)

@@ -12,7 +12,7 @@ use Rattle.vme_bus.specs.declared.answers.AnswerRecord.{AnswerRecord}
 use Rattle.vme_bus.specs.Answers.{answer_of, answers, is_plain}
 use Rattle.vme_engines.specs.Checking.{or_refusal, first_refusal}
 use Rattle.vme_engines.specs.Recorded.{answer_lines, plain_lines, first_refused_of}
-use Rattle.vme_engines.proofs.WrittenLines.{lines_append}
+use Rattle.vme_reading.proofs.WrittenLines.{lines_append}
 
 -- ---- the lines
 

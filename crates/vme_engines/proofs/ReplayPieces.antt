@@ -13,17 +13,17 @@ use Rattle.vme_trace.specs.declared.Fault.{Fault}
 use Rattle.vme_trace.specs.declared.Fault.TheVariants.{Header, Line, TooLong, CutOff, Read, Memory, Failed, Write}
 use Rattle.vme_trace.specs.Reading as trace
 use Rattle.vme_trace.specs.Writing.{AppendsFront}
-use Rattle.vme_engines.specs.declared.LineForm.{LineForm}
-use Rattle.vme_engines.specs.declared.LineForm.TheVariants.{Short, Full}
-use Rattle.vme_engines.specs.declared.Status.{Status}
-use Rattle.vme_engines.specs.Streams.{Streams, streams, IsInput, Wrote}
-use Rattle.vme_engines.specs.Outcomes.{bench, form_lines, lines_of, report, report_of, refused_count, status_with, HasFault, ReplayStops, Replays}
-use Rattle.vme_engines.specs.Steps.{Begins, ending, piece_text, TakesPiece, traced}
+use Rattle.vme_reading.specs.declared.LineForm.{LineForm}
+use Rattle.vme_reading.specs.declared.LineForm.TheVariants.{Short, Full}
+use Rattle.vme_reading.specs.declared.Status.{Status}
+use Rattle.vme_reading.specs.Streams.{Streams, streams, IsInput, Wrote}
+use Rattle.vme_reading.specs.Outcomes.{bench, form_lines, lines_of, report, report_of, refused_count, status_with, HasFault, ReplayStops, Replays}
+use Rattle.vme_reading.specs.Steps.{Begins, ending, piece_text, TakesPiece, traced}
 use Rattle.vme_engines.specs.declared.replays.Replaying.{Replaying}
-use Rattle.vme_engines.specs.Pieces.{Stopped, Came}
-use Rattle.vme_engines.specs.Readings.{GoesOn, Takes}
-use Rattle.vme_engines.proofs.ReadOn.{came_begins}
-use Rattle.vme_engines.proofs.WrittenLines.{front_of_more, front_behind, form_append, kept_append}
+use Rattle.vme_reading.specs.Pieces.{Stopped, Came}
+use Rattle.vme_reading.specs.Readings.{GoesOn, Takes}
+use Rattle.vme_reading.proofs.ReadOn.{came_begins}
+use Rattle.vme_reading.proofs.WrittenLines.{front_of_more, front_behind, form_append, kept_append}
 
 -- before the first piece nothing is written
 pub piece_none : (form : LineForm) (b : State) (a : Option (List ℕ)) → Appends a a (piece_text form b 0 [] (Ok true))

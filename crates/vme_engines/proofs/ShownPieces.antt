@@ -13,11 +13,11 @@ use Rattle.vme_trace.specs.Writing.{AppendsFront}
 use Rattle.vme_engines.specs.declared.following.Printed.{Printed}
 use Rattle.vme_engines.specs.declared.following.Printed.TheVariants.{Block, Beyond}
 use Rattle.vme_engines.specs.declared.shows.Stretch.{Stretch}
-use Rattle.vme_engines.specs.Outcomes.{status_with}
+use Rattle.vme_reading.specs.Outcomes.{status_with}
 use Rattle.vme_engines.specs.Stretches.{Stage}
 use Rattle.vme_engines.specs.Shown.{Ends, EndsStretch, IsBefore, IsKept, IsShown, stretch_text}
-use Rattle.vme_engines.specs.Pieces.{answered}
-use Rattle.vme_engines.proofs.WrittenLines.{kept_append, on_err, appends_behind, front_after, front_kept}
+use Rattle.vme_reading.specs.Pieces.{answered}
+use Rattle.vme_reading.proofs.WrittenLines.{kept_append, on_err, appends_behind, front_after, front_kept}
 
 -- ---- edges before the stretch
 

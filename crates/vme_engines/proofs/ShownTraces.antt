@@ -12,25 +12,25 @@ use Rattle.vme_show.specs.Picture.{picture}
 use Rattle.vme_trace.specs.declared.Fault.{Fault}
 use Rattle.vme_trace.specs.declared.Fault.TheVariants.{Write}
 use Rattle.vme_trace.specs.Writing.{AppendsFront}
-use Rattle.vme_engines.specs.declared.EngineFault.TheVariants as fault
+use Rattle.vme_reading.specs.declared.EngineFault.TheVariants as fault
 use Rattle.vme_engines.specs.declared.following.Printed.{Printed}
 use Rattle.vme_engines.specs.declared.following.Printed.TheVariants.{Block, Beyond}
 use Rattle.vme_engines.specs.declared.shows.Stretch.{Stretch}
-use Rattle.vme_engines.specs.Streams.{Streams, streams, Wrote, WroteNothing}
-use Rattle.vme_engines.specs.Outcomes.{bench, refused_count, status_with}
-use Rattle.vme_engines.specs.Pieces.{Came, answered}
-use Rattle.vme_engines.specs.Steps.{Begins}
-use Rattle.vme_engines.specs.Begun.{IsUnread}
-use Rattle.vme_engines.specs.Waiting.{StopsWaiting}
-use Rattle.vme_engines.specs.Readings.{Takes}
+use Rattle.vme_reading.specs.Streams.{Streams, streams, Wrote, WroteNothing}
+use Rattle.vme_reading.specs.Outcomes.{bench, refused_count, status_with}
+use Rattle.vme_reading.specs.Pieces.{Came, answered}
+use Rattle.vme_reading.specs.Steps.{Begins}
+use Rattle.vme_reading.specs.Begun.{IsUnread}
+use Rattle.vme_reading.specs.Waiting.{StopsWaiting}
+use Rattle.vme_reading.specs.Readings.{Takes}
 use Rattle.vme_engines.specs.Stretches.{Stage, IsStretch}
 use Rattle.vme_engines.specs.Showing.{IsShownOut, Shows, StopsShowing, shown_text}
 use Rattle.vme_engines.specs.Shown.{Ends, IsEnd, IsShown, status_to, stretch_text}
 use Rattle.vme_engines.specs.Followed.{printed_answer}
-use Rattle.vme_engines.proofs.ReadOn.{came_begins}
-use Rattle.vme_engines.proofs.Waits.{stops_unread, stops_waiting}
+use Rattle.vme_reading.proofs.ReadOn.{came_begins}
+use Rattle.vme_reading.proofs.Waits.{stops_unread, stops_waiting}
 use Rattle.vme_engines.proofs.ShownPieces.{ends_behind}
-use Rattle.vme_engines.proofs.WrittenLines.{appends_behind}
+use Rattle.vme_reading.proofs.WrittenLines.{appends_behind}
 
 module _ (p : Plan) (v : Version) (all : List ℕ) (s : Streams) (es : List Edge) (begins : Begins (read_of all) v es) (r : Stretch) (is : IsStretch r) where
   -- the edges that came are the first of the trace

@@ -22,7 +22,7 @@ use Rattle.vme_model.specs.Offers.{wires, turned, going_on, considered, offered,
 use Rattle.vme_model.proofs.Ranges.{IsRowInRange, in_range}
 use Rattle.vme_model.proofs.Members.{found_row}
 use Rattle.vme_trace.specs.Writing.{AppendsFront}
-use Rattle.vme_engines.specs.Texts.{lines_made}
+use Rattle.vme_reading.specs.Texts.{lines_made}
 use Rattle.vme_engines.specs.Driving.{boards}
 use Rattle.vme_engines.proofs.DriveRounds.{later, turn_none}
 use Rattle.vme_engines.proofs.ListedLines.{IsBefore, itself, before_both, front_later}

@@ -19,24 +19,24 @@ use Rattle.vme_summary.specs.Tally.{Answers as Printed, answered_edge, answered_
 use Rattle.vme_summary.specs.Tallied.{IsTallyOf}
 use Rattle.vme_summary.proofs.Counted.{count_step}
 use Rattle.vme_summary.proofs.Words.{each_once}
-use Rattle.vme_engines.specs.declared.Status.{Status}
-use Rattle.vme_engines.specs.declared.EngineFault.TheVariants as fault
+use Rattle.vme_reading.specs.declared.Status.{Status}
+use Rattle.vme_reading.specs.declared.EngineFault.TheVariants as fault
 use Rattle.vme_engines.specs.declared.summaries.Summing.{Summing}
-use Rattle.vme_engines.specs.Streams.{Streams, streams, Wrote, WroteFront, WroteNothing}
-use Rattle.vme_engines.specs.Outcomes.{bench, refused_count, status_with}
-use Rattle.vme_engines.specs.Pieces.{Came}
-use Rattle.vme_engines.specs.Begun.{IsUnread}
-use Rattle.vme_engines.specs.Waiting.{StopsWaiting}
+use Rattle.vme_reading.specs.Streams.{Streams, streams, Wrote, WroteFront, WroteNothing}
+use Rattle.vme_reading.specs.Outcomes.{bench, refused_count, status_with}
+use Rattle.vme_reading.specs.Pieces.{Came}
+use Rattle.vme_reading.specs.Begun.{IsUnread}
+use Rattle.vme_reading.specs.Waiting.{StopsWaiting}
 use Rattle.vme_engines.specs.Followed.{IsAfter}
 use Rattle.vme_engines.specs.Summing.{IsSummedUp, IsWaiting, Sums}
 use Rattle.vme_engines.specs.Summed.{IsSumOf, Tallies, sum_text}
 use Rattle.vme_engines.proofs.FollowedEdges.{kept_plan, edges_on, ok_with}
 use Rattle.std.specs.Io.KnownBytes.{Appends, Keeps}
 use Rattle.vme_trace.specs.Writing.{AppendsFront}
-use Rattle.vme_engines.specs.Steps.{traced}
-use Rattle.vme_engines.specs.Readings.{LeavesNow}
-use Rattle.vme_engines.proofs.WrittenLines.{appends_behind, front_after}
-use Rattle.vme_engines.proofs.Waits.{stops_unread}
+use Rattle.vme_reading.specs.Steps.{traced}
+use Rattle.vme_reading.specs.Readings.{LeavesNow}
+use Rattle.vme_reading.proofs.WrittenLines.{appends_behind, front_after}
+use Rattle.vme_reading.proofs.Waits.{stops_unread}
 
 -- ---- lists of edges
 

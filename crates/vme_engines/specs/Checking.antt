@@ -10,13 +10,13 @@ use Rattle.vme_model.specs.Text.{Reading, read_of}
 use Rattle.vme_model.specs.Report.{verdict_text, trace_limit}
 use Rattle.vme_trace.specs.declared.Fault.{Fault}
 use Rattle.vme_trace.specs.declared.Fault.TheVariants.{Header, Line, TooLong, CutOff, Read, Memory, Failed, Write}
-use Rattle.vme_engines.specs.declared.Status.{Status}
-use Rattle.vme_engines.specs.declared.Status.TheVariants.{Done, SomeRefused}
-use Rattle.vme_engines.specs.declared.EngineFault.TheVariants as fault
+use Rattle.vme_reading.specs.declared.Status.{Status}
+use Rattle.vme_reading.specs.declared.Status.TheVariants.{Done, SomeRefused}
+use Rattle.vme_reading.specs.declared.EngineFault.TheVariants as fault
 use Rattle.vme_engines.specs.declared.checks.Finding.{Finding}
 use Rattle.vme_engines.specs.declared.checks.Finding.TheVariants.{Legal, Illegal}
-use Rattle.vme_engines.specs.Streams.{Streams, IsInput, HasConsumed, IsReadOut, Wrote, WroteFront, WroteNothing}
-use Rattle.vme_engines.specs.Outcomes.{Answer, bench, HasFault, CanGoOn}
+use Rattle.vme_reading.specs.Streams.{Streams, IsInput, HasConsumed, IsReadOut, Wrote, WroteFront, WroteNothing}
+use Rattle.vme_reading.specs.Outcomes.{Answer, bench, HasFault, CanGoOn}
 
 -- ---- the first refusal
 

@@ -17,12 +17,12 @@ use Rattle.vme_goals.specs.declared.goals.Aim.{Aim}
 use Rattle.vme_goals.specs.declared.goals.Aim.TheVariants as aim
 use Rattle.vme_goals.specs.declared.goals.Goal.{Goal}
 use Rattle.vme_events.specs.Misses.{refuses}
-use Rattle.vme_engines.specs.declared.Status.{Status}
-use Rattle.vme_engines.specs.declared.Status.TheVariants.{Done, Limit}
-use Rattle.vme_engines.specs.declared.EngineFault.TheVariants as fault
+use Rattle.vme_reading.specs.declared.Status.{Status}
+use Rattle.vme_reading.specs.declared.Status.TheVariants.{Done, Limit}
+use Rattle.vme_reading.specs.declared.EngineFault.TheVariants as fault
 use Rattle.vme_engines.specs.declared.seeks.Ending.{Ending}
 use Rattle.vme_engines.specs.declared.seeks.Ending.TheVariants.{Over, Missed}
-use Rattle.vme_engines.specs.Outcomes.{Answer, bench}
+use Rattle.vme_reading.specs.Outcomes.{Answer, bench}
 use Rattle.vme_engines.specs.Checking.{IsLegalTrace}
 use Rattle.vme_engines.specs.Seeking.{Ended, is_counted, walk_to}
 

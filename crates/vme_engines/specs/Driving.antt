@@ -14,9 +14,9 @@ use Rattle.vme_model.specs.Text.{text, read_of}
 use Rattle.vme_scenario.specs.Format.{scenario}
 use Rattle.vme_trace.specs.declared.Fault.TheVariants.{Write}
 use Rattle.vme_trace.specs.Writing.{AppendsFront}
-use Rattle.vme_engines.specs.declared.Status.TheVariants.{Done, Limit}
-use Rattle.vme_engines.specs.declared.EngineFault.TheVariants as fault
-use Rattle.vme_engines.specs.Outcomes.{Answer, bench}
+use Rattle.vme_reading.specs.declared.Status.TheVariants.{Done, Limit}
+use Rattle.vme_reading.specs.declared.EngineFault.TheVariants as fault
+use Rattle.vme_reading.specs.Outcomes.{Answer, bench}
 use Rattle.vme_engines.specs.Checking.{IsLegalTrace}
 
 -- the drivers but for the controller: each board by slot

@@ -9,14 +9,14 @@ use Rattle.vme_model.specs.Text.{Reading, read_of}
 use Rattle.vme_model.specs.Numbered.{numbered, IsNth}
 use Rattle.vme_model.specs.Why.{why_text}
 use Rattle.vme_trace.specs.declared.Fault.TheVariants.{Write}
-use Rattle.vme_engines.specs.declared.Status.{Status}
-use Rattle.vme_engines.specs.declared.Status.TheVariants.{Done, SomeRefused}
-use Rattle.vme_engines.specs.declared.EngineFault.TheVariants as fault
+use Rattle.vme_reading.specs.declared.Status.{Status}
+use Rattle.vme_reading.specs.declared.Status.TheVariants.{Done, SomeRefused}
+use Rattle.vme_reading.specs.declared.EngineFault.TheVariants as fault
 use Rattle.vme_engines.specs.declared.checks.Finding.TheVariants.{Legal}
-use Rattle.vme_engines.specs.Streams.{Streams, IsInput, IsReadOut, Wrote, WroteFront, WroteNothing}
-use Rattle.vme_engines.specs.Outcomes.{Answer, bench}
+use Rattle.vme_reading.specs.Streams.{Streams, IsInput, IsReadOut, Wrote, WroteFront, WroteNothing}
+use Rattle.vme_reading.specs.Outcomes.{Answer, bench}
 use Rattle.vme_engines.specs.Checking.{first_refusal, refusal_of, finding_line}
-use Rattle.vme_engines.specs.Waiting.{StopsWaiting}
+use Rattle.vme_reading.specs.Waiting.{StopsWaiting}
 
 -- an edge is asked for by its number, or as the first that is refused: it is the n-th
 abbrev pub IsAsked : Option ℕ → State → List Edge → ℕ → Type 0

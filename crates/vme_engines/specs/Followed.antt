@@ -9,13 +9,13 @@ use Rattle.vme_model.specs.Numbered.{Numbered, numbered}
 use Rattle.vme_model.specs.Why.{why_text}
 use Rattle.vme_explain.specs.Marked.{IsMarksOf}
 use Rattle.vme_trace.specs.declared.Fault.{Fault}
-use Rattle.vme_engines.specs.declared.EngineFault.{EngineFault}
+use Rattle.vme_reading.specs.declared.EngineFault.{EngineFault}
 use Rattle.vme_engines.specs.declared.following.Following.{Following}
 use Rattle.vme_engines.specs.declared.following.Found.{Found}
 use Rattle.vme_engines.specs.declared.following.Printed.{Printed}
 use Rattle.vme_engines.specs.declared.following.Printed.TheVariants.{Block, Beyond}
-use Rattle.vme_engines.specs.declared.EngineFault.TheVariants as fault
-use Rattle.vme_engines.specs.Outcomes.{Answer, bench}
+use Rattle.vme_reading.specs.declared.EngineFault.TheVariants as fault
+use Rattle.vme_reading.specs.Outcomes.{Answer, bench}
 use Rattle.vme_engines.specs.Checking.{first_refusal}
 use Rattle.vme_engines.specs.Explaining.{IsUnasked}
 

@@ -4,10 +4,10 @@ use Rattle.std.specs.Io.KnownBytes.{Keeps}
 use Rattle.vme_model.specs.declared.signals.Version.{Version}
 use Rattle.vme_model.specs.Plan.{Plan}
 use Rattle.vme_goals.specs.declared.goals.Goal.{Goal}
-use Rattle.vme_engines.specs.declared.EngineFault.{EngineFault}
-use Rattle.vme_engines.specs.declared.Status.TheVariants.{Done, Limit}
+use Rattle.vme_reading.specs.declared.EngineFault.{EngineFault}
+use Rattle.vme_reading.specs.declared.Status.TheVariants.{Done, Limit}
 use Rattle.vme_engines.specs.declared.seeks.Ending.TheVariants.{Over}
-use Rattle.vme_engines.specs.Outcomes.{Answer}
+use Rattle.vme_reading.specs.Outcomes.{Answer}
 use Rattle.vme_engines.specs.Drawing.{walk, Draws}
 
 -- whether a seed comes to the goal

@@ -10,14 +10,14 @@ use Rattle.vme_model.specs.Text.{header, read_of}
 use Rattle.vme_trace.specs.declared.Fault.{Fault}
 use Rattle.vme_trace.specs.Reading as trace
 use Rattle.vme_trace.specs.Reading.{IsOneLine}
-use Rattle.vme_engines.specs.declared.Status.{Status}
+use Rattle.vme_reading.specs.declared.Status.{Status}
 use Rattle.vme_engines.specs.declared.joins.Found.{Found}
 use Rattle.vme_engines.specs.declared.joins.Front.{Front}
-use Rattle.vme_engines.specs.Streams.{streams, IsInput, WroteNothing}
-use Rattle.vme_engines.specs.declared.LineForm.TheVariants.{Short}
-use Rattle.vme_engines.specs.Outcomes.{Answer, scenario_limit, LentAsking, Replays}
+use Rattle.vme_reading.specs.Streams.{streams, IsInput, WroteNothing}
+use Rattle.vme_reading.specs.declared.LineForm.TheVariants.{Short}
+use Rattle.vme_reading.specs.Outcomes.{Answer, scenario_limit, LentAsking, Replays}
 use Rattle.vme_engines.specs.Joining.{cut}
-use Rattle.vme_engines.specs.Steps.{traced}
+use Rattle.vme_reading.specs.Steps.{traced}
 
 -- a cut of what stands after these bytes
 abbrev pub behind : List ℕ → Option (List ℕ × List ℕ) → Option (List ℕ × List ℕ)

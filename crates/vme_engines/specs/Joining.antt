@@ -2,10 +2,10 @@
 use Rattle.std.specs.Prelude.{◌≡◌, ◌==◌, ◌&&◌, ◌||◌, ◌⊎◌, ◌++◌, ◌∷◌, [], ℕ, Bool, true, List, take, codes, Option, Some, None, option_map, Err, if◌then◌else◌}
 use Rattle.std.specs.Str.{bytes_eq}
 use Rattle.vme_trace.specs.declared.Fault.TheVariants.{Header, Read}
-use Rattle.vme_engines.specs.declared.EngineFault.TheVariants as fault
-use Rattle.vme_engines.specs.declared.LineForm.TheVariants.{Short}
-use Rattle.vme_engines.specs.Streams.{Streams, IsInput, HasConsumed, IsReadOut, WroteNothing}
-use Rattle.vme_engines.specs.Outcomes.{Answer, LentAsking, Replays}
+use Rattle.vme_reading.specs.declared.EngineFault.TheVariants as fault
+use Rattle.vme_reading.specs.declared.LineForm.TheVariants.{Short}
+use Rattle.vme_reading.specs.Streams.{Streams, IsInput, HasConsumed, IsReadOut, WroteNothing}
+use Rattle.vme_reading.specs.Outcomes.{Answer, LentAsking, Replays}
 
 -- the bytes begin with a header line
 abbrev pub begins_trace : List ℕ → Bool

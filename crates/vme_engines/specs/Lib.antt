@@ -1,16 +1,10 @@
 -- The definitions of the engines. `believe` marks what a theorem rests on, and `words` what only
 -- says how one function serves another.
 
--- believe: what was read and what was written, as far as the bytes are known
-pub mod Streams
--- believe: a scenario that an engine is lent, and what a replay leaves
-pub mod Outcomes
 -- believe, for `joined` alone: a scenario and a trace in one input
 pub mod Joining
 -- believe, for `check`, `drive` and `explain`: what is found in a trace, and what a check leaves
 pub mod Checking
--- believe, for `explain`, `state` and `show`: a fault of a trace before what they wait for
-pub mod Waiting
 -- believe, for `explain` alone: which edge is explained, and what that leaves
 pub mod Explaining
 -- believe, for `state` alone: which place is printed, and what that leaves
@@ -21,8 +15,6 @@ pub mod Showing
 pub mod Summing
 -- believe, for `add_trace`: what one more trace does to the sums of those before it
 pub mod Totals
--- believe, for `read_pair` alone: what is read of two traces side by side
-pub mod Pairs
 -- believe, for `drive` alone: what the drivers make, and what is written of it
 pub mod Driving
 -- believe, for `drive_drawn` and `drive_found`: a walk that seeks a goal, and how it ends
@@ -33,17 +25,6 @@ pub mod Bringing
 pub mod Drawing
 -- believe, for `drive_found` alone: which seed is found, and what is written of it
 pub mod Found
--- words, but for `IsNoPlan`, which `plan_of` answers by: what the reads and the pieces of a trace
--- do to an engine
-pub mod Steps
--- words: what is known of a trace at a read
-pub mod Pieces
--- words: what the one reading of a trace leaves
-pub mod Readings
--- words: a trace that stands alone, up to its header line
-pub mod Begun
--- words: two traces that are read side by side, as far as they were read
-pub mod Sides
 -- words: what the edges of a trace do to `explain` and `state`
 pub mod Followed
 -- words: a stretch that is shown, and how far it came
@@ -58,7 +39,7 @@ pub mod Front
 pub mod Counting
 -- words: what is written of a list of answers, and found in it
 pub mod Recorded
--- words: a text that is put together before it is written
-pub mod Texts
 -- words: the numbers in the line of an edge
 pub mod Spelled
+-- words: the edges that a check has judged
+pub mod Unrefused

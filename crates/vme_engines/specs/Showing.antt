@@ -8,10 +8,10 @@ use Rattle.vme_model.specs.Text.{Reading, read_of}
 use Rattle.vme_trace.specs.declared.Fault.{Fault}
 use Rattle.vme_trace.specs.declared.Fault.TheVariants.{Write}
 use Rattle.vme_show.specs.Picture.{picture}
-use Rattle.vme_engines.specs.declared.EngineFault.TheVariants as fault
-use Rattle.vme_engines.specs.Streams.{Streams, IsInput, IsReadOut, Wrote, WroteFront, WroteNothing}
-use Rattle.vme_engines.specs.Outcomes.{Answer, bench, refused_count, status_with}
-use Rattle.vme_engines.specs.Waiting.{StopsWaiting}
+use Rattle.vme_reading.specs.declared.EngineFault.TheVariants as fault
+use Rattle.vme_reading.specs.Streams.{Streams, IsInput, IsReadOut, Wrote, WroteFront, WroteNothing}
+use Rattle.vme_reading.specs.Outcomes.{Answer, bench, refused_count, status_with}
+use Rattle.vme_reading.specs.Waiting.{StopsWaiting}
 
 -- The picture of those of these edges that have the numbers `from` to `to`, from 1: on a backplane
 -- that has none of them, each is judged on what was kept before it.

@@ -7,12 +7,12 @@ use Rattle.vme_show.specs.Columns.{Seen, IsWindowOf}
 use Rattle.vme_trace.specs.declared.Fault.{Fault}
 use Rattle.vme_trace.specs.declared.Fault.TheVariants.{Write}
 use Rattle.vme_trace.specs.Writing.{AppendsFront}
-use Rattle.vme_engines.specs.declared.Status.{Status}
+use Rattle.vme_reading.specs.declared.Status.{Status}
 use Rattle.vme_engines.specs.declared.following.Printed.{Printed}
 use Rattle.vme_engines.specs.declared.following.Printed.TheVariants.{Block, Beyond}
 use Rattle.vme_engines.specs.declared.shows.Stretch.{Stretch}
 use Rattle.vme_engines.specs.Stretches.{Stage, IsStretch}
-use Rattle.vme_engines.specs.Outcomes.{status_with}
+use Rattle.vme_reading.specs.Outcomes.{status_with}
 use Rattle.vme_engines.specs.Showing.{picture_of}
 
 -- ---- what came

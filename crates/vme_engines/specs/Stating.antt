@@ -8,11 +8,11 @@ use Rattle.vme_model.specs.Text.{Reading, read_of}
 use Rattle.vme_model.specs.Numbered.{numbered}
 use Rattle.vme_model.specs.Stands.{stands_text}
 use Rattle.vme_trace.specs.declared.Fault.TheVariants.{Write}
-use Rattle.vme_engines.specs.declared.Status.TheVariants.{Done}
-use Rattle.vme_engines.specs.declared.EngineFault.TheVariants as fault
-use Rattle.vme_engines.specs.Streams.{Streams, IsInput, IsReadOut, Wrote, WroteFront, WroteNothing}
-use Rattle.vme_engines.specs.Outcomes.{Answer, bench}
-use Rattle.vme_engines.specs.Waiting.{StopsWaiting}
+use Rattle.vme_reading.specs.declared.Status.TheVariants.{Done}
+use Rattle.vme_reading.specs.declared.EngineFault.TheVariants as fault
+use Rattle.vme_reading.specs.Streams.{Streams, IsInput, IsReadOut, Wrote, WroteFront, WroteNothing}
+use Rattle.vme_reading.specs.Outcomes.{Answer, bench}
+use Rattle.vme_reading.specs.Waiting.{StopsWaiting}
 
 -- a place is asked for by the number of edges before it, or as the end of a whole trace: there are
 -- n of them

@@ -10,9 +10,9 @@ use Rattle.vme_summary.specs.Tally.{Answers, answered}
 use Rattle.vme_summary.specs.Tallied.{IsTallyOf}
 use Rattle.vme_summary.specs.Summary.{summary_text}
 use Rattle.vme_engines.specs.declared.summaries.Summing.{Summing}
-use Rattle.vme_engines.specs.Streams.{Streams, IsReadOut}
-use Rattle.vme_engines.specs.Outcomes.{bench}
-use Rattle.vme_engines.specs.Waiting.{StopsWaiting}
+use Rattle.vme_reading.specs.Streams.{Streams, IsReadOut}
+use Rattle.vme_reading.specs.Outcomes.{bench}
+use Rattle.vme_reading.specs.Waiting.{StopsWaiting}
 use Rattle.vme_engines.specs.Followed.{IsAfter}
 use Rattle.vme_engines.specs.Summing.{IsWaiting}
 use Rattle.vme_engines.specs.Totals.{IsWhole}

@@ -7,10 +7,10 @@ use Rattle.vme_model.specs.Text.{Reading, read_of}
 use Rattle.vme_trace.specs.declared.Fault.TheVariants.{Write}
 use Rattle.vme_summary.specs.Tally.{answered}
 use Rattle.vme_summary.specs.Summary.{summary_text}
-use Rattle.vme_engines.specs.declared.EngineFault.TheVariants as fault
-use Rattle.vme_engines.specs.Streams.{Streams, IsInput, IsReadOut, Wrote, WroteFront, WroteNothing}
-use Rattle.vme_engines.specs.Outcomes.{Answer, bench, status_of}
-use Rattle.vme_engines.specs.Waiting.{StopsWaiting}
+use Rattle.vme_reading.specs.declared.EngineFault.TheVariants as fault
+use Rattle.vme_reading.specs.Streams.{Streams, IsInput, IsReadOut, Wrote, WroteFront, WroteNothing}
+use Rattle.vme_reading.specs.Outcomes.{Answer, bench, status_of}
+use Rattle.vme_reading.specs.Waiting.{StopsWaiting}
 
 -- A whole trace without fault is summed up by this text: that of all its edges with their answers.
 pub record IsSummedUp (p : Plan) (r : Reading) (text : List ℕ) : Type 0 where

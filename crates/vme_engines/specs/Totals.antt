@@ -6,10 +6,10 @@ use Rattle.vme_model.specs.Text.{Reading, read_of}
 use Rattle.vme_summary.specs.declared.sums.Sums.{Sums}
 use Rattle.vme_summary.specs.Tally.{Answers, answered, refused}
 use Rattle.vme_summary.specs.Summed.{AreSumsOf, OfSums}
-use Rattle.vme_engines.specs.declared.EngineFault.TheVariants as fault
-use Rattle.vme_engines.specs.Streams.{Streams, IsInput, IsReadOut}
-use Rattle.vme_engines.specs.Outcomes.{Answer, bench, status_with}
-use Rattle.vme_engines.specs.Waiting.{StopsWaiting}
+use Rattle.vme_reading.specs.declared.EngineFault.TheVariants as fault
+use Rattle.vme_reading.specs.Streams.{Streams, IsInput, IsReadOut}
+use Rattle.vme_reading.specs.Outcomes.{Answer, bench, status_with}
+use Rattle.vme_reading.specs.Waiting.{StopsWaiting}
 use Rattle.vme_engines.specs.Summing.{IsWaiting}
 
 -- a whole trace without fault, which begins at power-up, has these edges with their answers

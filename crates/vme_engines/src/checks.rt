@@ -5,21 +5,19 @@ ghost use Rattle.vme_model.specs.Locality.{AreWellFormed};
 ghost use Rattle.vme_model.specs.Verdict.{kept};
 ghost use Rattle.vme_bus.specs.Answers.{answer_of, answers};
 ghost use Rattle.vme_trace.specs.Writing.{AppendsFront};
-ghost use Rattle.vme_engines.specs.Streams.{streams, ReadNothing, WroteNothing};
-ghost use Rattle.vme_engines.specs.Outcomes.{LentAsking};
+ghost use Rattle.vme_reading.specs.Streams.{streams, ReadNothing, WroteNothing};
+ghost use Rattle.vme_reading.specs.Outcomes.{LentAsking};
 ghost use Rattle.vme_engines.specs.Checking.{ChecksInput, Finds, first_refusal, finding_line, finding_status};
 ghost use Rattle.vme_engines.specs.Recorded.{first_refused_of};
-ghost use Rattle.vme_engines.specs.Readings.{ReadsInput, ReadsLent};
-ghost use Rattle.vme_engines.specs.Steps.{AreAccepted};
+ghost use Rattle.vme_reading.specs.Readings.{ReadsInput, ReadsLent};
+ghost use Rattle.vme_engines.specs.Unrefused.{AreAccepted};
 
 use crate::lines::write_finding;
-use crate::pieces::JUDGED_AT_ONCE;
-use crate::readings::{Judge, read};
-use crate::{EngineFault, Status};
 use std::alloc::Global;
 use std::io::{Read, Sink, Write, sink};
 use vme_bus::{AnswerRecord, Bus};
 use vme_model::{Edge, Refused};
+use vme_reading::{EngineFault, JUDGED_AT_ONCE, Judge, Status, read};
 use vme_trace::Fault;
 
 /// What a check finds in a trace.

@@ -4,21 +4,20 @@ ghost use Rattle.std.specs.Io.KnownBytes.{Appends, Keeps};
 ghost use Rattle.vme_model.specs.Signals.{is_well_formed};
 ghost use Rattle.vme_model.specs.Deliveries.{answer};
 ghost use Rattle.vme_trace.specs.Writing.{AppendsFront};
-ghost use Rattle.vme_engines.specs.Streams.{streams, ReadNothing, WroteNothing};
-ghost use Rattle.vme_engines.specs.Outcomes.{LentAsking};
+ghost use Rattle.vme_reading.specs.Streams.{streams, ReadNothing, WroteNothing};
+ghost use Rattle.vme_reading.specs.Outcomes.{LentAsking};
 ghost use Rattle.vme_engines.specs.Explaining.{Explains, ExplainsInput, IsUnasked, edge_status};
 ghost use Rattle.vme_engines.specs.Followed.{IsAfter, OfAfter, printed_answer, why_behind};
 
 use crate::checks::Finding;
 use crate::following::{Following, Found, Printed, status_of};
 use crate::lines::write_finding;
-use crate::readings::{Judge, read};
-use crate::{EngineFault, Status};
 use std::alloc::Global;
 use std::io::{Read, Write};
 use vme_bus::Bus;
 use vme_explain::write_why;
 use vme_model::Edge;
+use vme_reading::{EngineFault, Judge, Status, read};
 use vme_trace::{Fault, flush};
 
 /// Writes the block of the edge that was found, and has the writer hand on what it holds back. The

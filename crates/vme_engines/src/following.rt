@@ -8,16 +8,16 @@ ghost use Rattle.vme_model.specs.Verdict.{verdict};
 ghost use Rattle.vme_model.specs.Deliveries.{answer};
 ghost use Rattle.vme_events.specs.Events.{events_of};
 ghost use Rattle.vme_events.specs.Ordered.{OfOrdered};
-ghost use Rattle.vme_engines.specs.Outcomes.{bench};
+ghost use Rattle.vme_reading.specs.Outcomes.{bench};
 ghost use Rattle.vme_engines.specs.Followed.{IsAfter, OfAfter, Reaches, Seeks, counted, printed_status};
 
-use crate::{EngineFault, Status};
 use arrayvec::ArrayVec;
 use vme_bus::Bus;
 use vme_events::events_of;
 use vme_explain::Marks;
 use vme_goals::Event;
 use vme_model::{Cycle, Delivery, Driver, Edge, Refused, Wire};
+use vme_reading::{EngineFault, Status};
 use vme_trace::Fault;
 
 /// What an engine answers that prints one block.

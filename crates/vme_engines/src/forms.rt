@@ -6,15 +6,15 @@ ghost use Rattle.vme_model.specs.Signals.{is_well_formed};
 ghost use Rattle.vme_model.specs.Verdict.{after, kept};
 ghost use Rattle.vme_model.specs.Why.{edge_verdict};
 ghost use Rattle.vme_trace.specs.Writing.{AppendsFront};
-ghost use Rattle.vme_engines.specs.Outcomes.{form_lines, full_lines};
-ghost use Rattle.vme_engines.specs.Texts.{HandsOn};
+ghost use Rattle.vme_reading.specs.Outcomes.{form_lines, full_lines};
+ghost use Rattle.vme_reading.specs.Texts.{HandsOn};
 
-use crate::LineForm;
 use crate::lines::{hand_on, make_room, write_verdicts};
 use std::io::Write;
 use vme_bus::Bus;
 use vme_explain::verdict_line;
 use vme_model::Edge;
+use vme_reading::LineForm;
 use vme_text::Text;
 use vme_trace::Fault;
 

@@ -2,20 +2,19 @@
 ghost use Rattle.std.specs.Prelude.{◌≡◌, ◌+◌, ◌<◌, ◌≤◌, ◌++◌, ◌∷◌, ℕ, List, [], length, take, drop, Some, None, Ok, Err, OnOk};
 ghost use Rattle.vme_model.specs.Text.{header};
 ghost use Rattle.vme_trace.specs.Reading.{HasRead};
-ghost use Rattle.vme_engines.specs.Streams.{streams};
+ghost use Rattle.vme_reading.specs.Streams.{streams};
 ghost use Rattle.vme_engines.specs.Joining.{Joins};
 ghost use Rattle.vme_engines.specs.Front.{header_line, IsHeld, IsFront, IsTextOf, Takes, Finds, Starts, JoinsBehind, ReplaysBehind};
 
-use crate::pieces::buffer_of;
-use crate::plans::plan_of;
-use crate::readings::{Judge, read_on};
 use crate::replays::Replaying;
-use crate::{EngineFault, LineForm, READS, SCENARIO_LIMIT, Status};
 use arrayvec::ArrayVec;
 use std::alloc::{AllocError, Global};
 use std::io::{Read, Write};
 use vme_bus::Bus;
 use vme_model::{Edge, Version};
+use vme_reading::{
+    EngineFault, Judge, LineForm, READS, SCENARIO_LIMIT, Status, buffer_of, plan_of, read_on,
+};
 use vme_slots::Plan;
 use vme_trace::{Fault, Reader, header_line, header_of, read_piece};
 

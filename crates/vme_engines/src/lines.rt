@@ -8,17 +8,17 @@ ghost use Rattle.vme_bus.specs.Answers.{answer_of};
 ghost use Rattle.vme_trace.specs.Writing.{AppendsFront};
 ghost use Rattle.vme_engines.specs.Checking.{finding_line};
 ghost use Rattle.vme_engines.specs.Recorded.{answer_lines};
-ghost use Rattle.vme_engines.specs.Texts.{HandsOn};
+ghost use Rattle.vme_reading.specs.Texts.{HandsOn};
 
 use crate::checks::Finding;
 use crate::counts::Count;
-use crate::pieces::JUDGED_AT_ONCE;
 use crate::tails::{are_plain, push_line, push_plain};
 use arrayvec::ArrayVec;
 use std::io::Write;
 use vme_bus::{AnswerRecord, Bus};
 use vme_explain::texts::push_verdict;
 use vme_model::Edge;
+use vme_reading::JUDGED_AT_ONCE;
 use vme_text::{Text, push, push_number};
 use vme_trace::{Fault, flush, put};
 

@@ -1,18 +1,17 @@
 //! Replaying a trace: a verdict on each edge, and the closing line.
 ghost use Rattle.std.specs.Prelude.{◌≡◌, ◌+◌, ◌<◌, ◌^◌, [], length, None, Ok, true};
 ghost use Rattle.vme_model.specs.Locality.{AreWellFormed};
-ghost use Rattle.vme_engines.specs.Streams.{streams, ReadNothing, WroteNothing};
-ghost use Rattle.vme_engines.specs.Outcomes.{LentAsking, Replays, ReplaysInput, bench, status_with};
-ghost use Rattle.vme_engines.specs.Steps.{TakesPiece, traced};
+ghost use Rattle.vme_reading.specs.Streams.{streams, ReadNothing, WroteNothing};
+ghost use Rattle.vme_reading.specs.Outcomes.{LentAsking, Replays, ReplaysInput, bench, status_with};
+ghost use Rattle.vme_reading.specs.Steps.{TakesPiece, traced};
 
 use crate::forms::write_form;
 use crate::lines::close;
-use crate::readings::{Judge, read};
-use crate::{EngineFault, LineForm, Status};
 use std::alloc::Global;
 use std::io::{Read, Write};
 use vme_bus::Bus;
 use vme_model::Edge;
+use vme_reading::{EngineFault, Judge, LineForm, Status, read};
 use vme_text::Text;
 use vme_trace::{Fault, flush};
 

@@ -1,19 +1,18 @@
 //! Seeds, tried in order until the walk of one comes to a goal.
 ghost use Rattle.std.specs.Prelude.{◌≡◌, ◌≤◌, [], IfErr, IfOk, IfSome, IsTrue, OnOk, false, not};
 ghost use Rattle.std.specs.Io.KnownBytes.{Keeps};
-ghost use Rattle.vme_engines.specs.Outcomes.{Lent};
+ghost use Rattle.vme_reading.specs.Outcomes.{Lent};
 ghost use Rattle.vme_engines.specs.Drawing.{DrawsSafely, WalksSafely};
 ghost use Rattle.vme_engines.specs.Found.{Attempts, Finds, found_answer};
 ghost use Rattle.vme_engines.specs.Seeking.{is_over, walk_to};
 
-use crate::EngineFault;
 use crate::draws::{draw_trace, write_walk};
 use crate::listening::{Listener, Progress};
-use crate::plans::plan_of;
 use std::alloc::Global;
 use std::io::Write;
 use vme_goals::Goal;
 use vme_model::Version;
+use vme_reading::{EngineFault, plan_of};
 use vme_seeds::Walk;
 use vme_slots::Plan;
 use vme_trace::Fault;

@@ -5,7 +5,7 @@ ghost use Rattle.vme_seeds.specs.Walks.{with_edge};
 ghost use Rattle.vme_events.specs.Places.{by_place};
 ghost use Rattle.vme_explain.specs.Marked.{IsMarksOf};
 ghost use Rattle.vme_engines.specs.Seeking.{brings, ends_at, fulfils, is_counted, is_over, missed_by, missed_once_due, sought, turned};
-ghost use Rattle.vme_engines.specs.Texts.{ListsOn};
+ghost use Rattle.vme_reading.specs.Texts.{ListsOn};
 
 use crate::drives::put_line;
 use std::io::Write;

@@ -4,23 +4,22 @@ ghost use Rattle.std.specs.Io.KnownBytes.{Appends, Keeps};
 ghost use Rattle.vme_model.specs.declared.signals.Edge.{Edge as EdgeValue};
 ghost use Rattle.vme_model.specs.Verdict.{State};
 ghost use Rattle.vme_trace.specs.Writing.{AppendsFront};
-ghost use Rattle.vme_engines.specs.Streams.{streams, ReadNothing, WroteNothing};
-ghost use Rattle.vme_engines.specs.Outcomes.{LentAsking, bench};
-ghost use Rattle.vme_engines.specs.Readings.{GoesOn};
+ghost use Rattle.vme_reading.specs.Streams.{streams, ReadNothing, WroteNothing};
+ghost use Rattle.vme_reading.specs.Outcomes.{LentAsking, bench};
+ghost use Rattle.vme_reading.specs.Readings.{GoesOn};
 ghost use Rattle.vme_engines.specs.Showing.{Shows, ShowsInput};
 ghost use Rattle.vme_engines.specs.Stretches.{IsStretch};
 ghost use Rattle.vme_engines.specs.Shown.{Ends, EndsStretch, IsBefore, IsFresh, IsShown, status_to, stretch_text};
 ghost use Rattle.vme_engines.specs.Followed.{printed_answer};
 
 use crate::following::{self, Printed};
-use crate::readings::{Judge, read};
 use crate::replays::status_of;
-use crate::{EngineFault, Status};
 use std::alloc::Global;
 use std::io::{Read, Write};
 use std::marker::Model;
 use vme_bus::Bus;
 use vme_model::Edge;
+use vme_reading::{EngineFault, Judge, Status, read};
 use vme_show::Window;
 use vme_trace::{Fault, flush};
 

@@ -3,19 +3,18 @@ ghost use Rattle.std.specs.Prelude.{◌≡◌, OnOk, OnErr, IfOk, IfErr};
 ghost use Rattle.std.specs.Io.KnownBytes.{Appends, Keeps};
 ghost use Rattle.vme_model.specs.Stands.{stands_text};
 ghost use Rattle.vme_trace.specs.Writing.{AppendsFront};
-ghost use Rattle.vme_engines.specs.Streams.{streams, ReadNothing, WroteNothing};
-ghost use Rattle.vme_engines.specs.Outcomes.{LentAsking};
+ghost use Rattle.vme_reading.specs.Streams.{streams, ReadNothing, WroteNothing};
+ghost use Rattle.vme_reading.specs.Outcomes.{LentAsking};
 ghost use Rattle.vme_engines.specs.Stating.{States, StatesInput};
 ghost use Rattle.vme_engines.specs.Followed.{IsAfter, IsNotBefore, OfAfter, printed_answer, printed_behind};
 
 use crate::following::{Following, Printed, status_of};
-use crate::readings::{Judge, read};
-use crate::{EngineFault, Status};
 use std::alloc::Global;
 use std::io::{Read, Write};
 use vme_bus::Bus;
 use vme_explain::write_stands;
 use vme_model::Edge;
+use vme_reading::{EngineFault, Judge, Status, read};
 use vme_trace::{Fault, flush};
 
 /// Writes where the bus stands, and has the writer hand on what it holds back.

@@ -5,20 +5,19 @@ ghost use Rattle.vme_model.specs.Signals.{is_well_formed};
 ghost use Rattle.vme_model.specs.Locality.{AreWellFormed};
 ghost use Rattle.vme_trace.specs.Writing.{AppendsFront};
 ghost use Rattle.vme_summary.specs.Tally.{answered, refused};
-ghost use Rattle.vme_engines.specs.Streams.{streams, ReadNothing, WroteNothing};
-ghost use Rattle.vme_engines.specs.Outcomes.{LentAsking, bench, status_with};
-ghost use Rattle.vme_engines.specs.Steps.{traced};
+ghost use Rattle.vme_reading.specs.Streams.{streams, ReadNothing, WroteNothing};
+ghost use Rattle.vme_reading.specs.Outcomes.{LentAsking, bench, status_with};
+ghost use Rattle.vme_reading.specs.Steps.{traced};
 ghost use Rattle.vme_engines.specs.Summing.{Sums, SumsInput};
 ghost use Rattle.vme_engines.specs.Summed.{IsSumOf, OfSum, sum_text};
 
 use crate::following::Following;
-use crate::readings::{Judge, read};
 use crate::replays::status_of;
-use crate::{EngineFault, Status};
 use std::alloc::Global;
 use std::io::{Read, Write};
 use vme_bus::Bus;
 use vme_model::Edge;
+use vme_reading::{EngineFault, Judge, Status, read};
 use vme_summary::{Tally, write_summary};
 use vme_trace::{Fault, flush};
 

@@ -1,19 +1,18 @@
 //! Adding up what several traces come to, each from power-up on.
 ghost use Rattle.std.specs.Prelude.{◌≡◌, None, IfErr};
-ghost use Rattle.vme_engines.specs.Outcomes.{LentAsking};
-ghost use Rattle.vme_engines.specs.Streams.{streams, ReadNothing};
+ghost use Rattle.vme_reading.specs.Outcomes.{LentAsking};
+ghost use Rattle.vme_reading.specs.Streams.{streams, ReadNothing};
 ghost use Rattle.vme_engines.specs.Summed.{IsSumOf, Tallies};
 ghost use Rattle.vme_engines.specs.Totals.{AddsInput};
 
-use crate::readings::{Judge, read};
 use crate::replays::status_of;
 use crate::summaries::Summing;
-use crate::{EngineFault, Status};
 use std::alloc::Global;
 use std::io::{Read, Sink, Write, sink};
 use std::mem::replace;
 use vme_bus::Bus;
 use vme_model::Edge;
+use vme_reading::{EngineFault, Judge, Status, read};
 use vme_slots::Plan;
 use vme_summary::{Sums, Tally};
 use vme_trace::Fault;

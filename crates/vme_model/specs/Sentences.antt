@@ -85,65 +85,65 @@ rule_edge E5 = codes "any"
 
 -- the sentence of a settling rule, and of E5
 abbrev pub other_sentence : Rule → List ℕ
-other_sentence S1 = codes "No cycle begins before the IACK chain of the last one is high again."
-other_sentence S2 = codes "The bus timer waits until nobody is left to answer."
+other_sentence S1 = codes "No cycle begins until the IACK chain of the last cycle is high again."
+other_sentence S2 = codes "The bus timer waits until no board is left that can answer."
 other_sentence S3 = codes "Version 2: a grant times out only when it has passed every board."
-other_sentence S4 = codes "Version 2: a new grant does not follow one that is still rising."
+other_sentence S4 = codes "Version 2: a new grant waits until the last one has risen at every board."
 other_sentence E5 = codes "A trace has at most 1,048,576 accepted edges."
 other_sentence r = []
 
 -- the sentence of a rule of interrupters
 abbrev pub interrupters_sentence : Rule → List ℕ
-interrupters_sentence G21 = codes "An interrupt request may come at any time."
+interrupters_sentence G21 = codes "A board may request an interrupt at any time."
 interrupters_sentence G22 =
-    codes "An interrupt request stands until it is served: with ROAK by an acknowledge, with RORA "
-    ++ codes "by an access."
+    codes "An interrupt request stays asserted until it is served: with ROAK by an acknowledge, "
+    ++ codes "with RORA by an access."
 interrupters_sentence G23 =
     codes "A board with nothing pending at the level shown passes the acknowledge on."
 interrupters_sentence G24 = codes "A board keeps the IACK chain low until the cycle ends."
 interrupters_sentence G25 =
     codes "The first pending board that an acknowledge reaches answers it, and a board answers an "
     ++ codes "access to its slot."
-interrupters_sentence G26 = codes "An answer stands until the master has seen it."
+interrupters_sentence G26 = codes "An answer stays asserted until the master has seen it."
 interrupters_sentence r = other_sentence r
 
 -- the sentence of a rule of requesters or masters
 abbrev pub board_sentence : Rule → List ℕ
 board_sentence G9 = codes "The owner of the bus does not request it."
-board_sentence G10 = codes "A request stands until it is met. Version 2: it may be withdrawn."
+board_sentence G10 = codes "A request stays asserted until it is met. Version 2: it may be withdrawn."
 board_sentence G11 = codes "A board that does not want the grant passes it on."
-board_sentence G12 = codes "A grant chain rises from its beginning onward."
+board_sentence G12 = codes "A grant chain rises board by board, from its beginning."
 board_sentence G13 = codes "A requester takes the grant that reaches it."
 board_sentence G14 =
-    codes "An owner gives the bus up once its last transfer has begun and no old grant is left; "
+    codes "An owner releases the bus once its last transfer has begun and no old grant is left; "
     ++ codes "with ROR, only while a board requests the bus."
 board_sentence G15 =
-    codes "The owner begins a cycle once the one before has ended; with RWD within its burst; and "
-    ++ codes "it acknowledges what it handles and what is requested."
-board_sentence G16 = codes "The address strobe says that the address is good."
+    codes "The owner begins a cycle once the one before has ended; with RWD, only within its "
+    ++ codes "burst; and it acknowledges only what it handles and what is requested."
+board_sentence G16 = codes "The address strobe says that the address is valid."
 board_sentence G17 =
-    codes "A data strobe waits until the last answer is gone, and comes once in a cycle."
-board_sentence G18 = codes "A data strobe stands until it is answered."
-board_sentence G19 = codes "The address goes off once its one transfer is over."
+    codes "A data strobe waits until the last answer has ended, and falls once in a cycle."
+board_sentence G18 = codes "A data strobe stays asserted until it is answered."
+board_sentence G19 = codes "The address goes off once its only transfer is over."
 board_sentence G20 = codes "A cycle ends once its address is off."
 board_sentence r = interrupters_sentence r
 
 -- the sentence of a rule
 abbrev pub sentence : Rule → List ℕ
-sentence E1 = codes "An edge needs a board in its slot, and a board that has the wire."
-sentence E2 = codes "A wire goes to its other state only."
+sentence E1 = codes "An edge needs a board in its slot, and the board must have the wire."
+sentence E2 = codes "A wire can only change to its other state."
 sentence G1 =
     codes "The arbiter grants the level that its policy picks, one grant at a time, while the bus "
     ++ codes "has no owner."
 sentence G2 =
-    codes "A grant stands until a board has taken it. Version 2: it may also time out, by S3."
+    codes "A grant stays asserted until a board has taken it. Version 2: it may also time out, by S3."
 sentence G3 =
-    codes "A priority arbiter asks the owner to make room for a request of a higher level."
-sentence G4 = codes "Bus clear stands as long as its reason lasts."
-sentence G5 = codes "The daisy-chain driver starts the IACK chain of the acknowledge that is shown."
+    codes "A priority arbiter asks the owner to release the bus for a request of a higher level."
+sentence G4 = codes "Bus clear stays asserted as long as it is due."
+sentence G5 = codes "The daisy-chain driver starts the IACK chain for the acknowledge that is shown."
 sentence G6 = codes "The daisy-chain driver keeps the IACK chain low until the cycle ends."
 sentence G7 = codes "The bus timer ends a cycle that nobody answers."
-sentence G8 = codes "A bus error stands until the master has seen it."
+sentence G8 = codes "A bus error stays asserted until the master has seen it."
 sentence r = board_sentence r
 
 -- the rule of that name

@@ -14,7 +14,7 @@ use Rattle.vme_model.specs.declared.sentences.Rule.TheVariants.{G1, G2, G3, G4, 
 use Rattle.vme_model.specs.declared.sources.Chapter.{Chapter}
 use Rattle.vme_model.specs.declared.sources.Chapter.TheVariants.{DataTransfer, Arbitration, Interrupts}
 use Rattle.vme_model.specs.declared.sources.Reason.{Reason}
-use Rattle.vme_model.specs.declared.sources.Reason.TheVariants.{AllDrivers, ThisMoment, RoundRobinLeftOut, GrantsHighAgain, RequestGone, OwnerHasIt, NotWithdrawn, PassedOnIsLost, SeenOnItsWire, RequestOver, GrantGone, BoundedTenure, StillRequested, BlocksLeftOut, AddressOffFirst, PipeliningLeftOut, AddressOnlyLeftOut, TimerCountsTime, TimeOfVersionTwo}
+use Rattle.vme_model.specs.declared.sources.Reason.TheVariants.{AllDrivers, ThisMoment, RoundRobinLeftOut, GrantsHighAgain, RequestGone, OwnerHasIt, NotWithdrawn, GrantPassedOn, AcknowledgePassedOn, SeenOnItsWire, RequestOver, GrantGone, BoundedTenure, StillRequested, BlocksLeftOut, AddressOffFirst, PipeliningLeftOut, AddressOnlyLeftOut, TimerCountsTime, TimeOfVersionTwo}
 use Rattle.vme_model.specs.declared.sources.Source.{Source}
 use Rattle.vme_model.specs.declared.sources.Source.TheVariants.{Standard, EachCycle, LeastTime, Profile}
 use Rattle.vme_model.specs.declared.sources.Sourced.{Sourced}
@@ -24,26 +24,27 @@ use Rattle.vme_model.specs.Sentences.{rule_named}
 
 -- why a condition is not the standard's
 abbrev pub reason_text : Reason → List ℕ
-reason_text AllDrivers = codes "it waits until all four drivers are high"
+reason_text AllDrivers = codes "the standard does not ask for all four"
 reason_text ThisMoment =
-    codes "the policies are chapter 3's; that the pick is of this moment is ours"
+    codes "the policies are chapter 3's; only the moment of the pick is ours"
 reason_text RoundRobinLeftOut = codes "BCLR* from an RRS arbiter is left out"
-reason_text GrantsHighAgain = codes "it waits until the grants are high again"
-reason_text RequestGone = codes "it also ends when the request goes away"
-reason_text OwnerHasIt = codes "the owner has what it would request"
+reason_text GrantsHighAgain = codes "bus clear waits until the grants are high again"
+reason_text RequestGone = codes "bus clear also ends once no higher request is left"
+reason_text OwnerHasIt = codes "the owner does not need to request the bus"
 reason_text NotWithdrawn = codes "no request is withdrawn"
-reason_text PassedOnIsLost = codes "what was passed on is lost"
-reason_text SeenOnItsWire = codes "that it asks is seen on its own wire"
-reason_text RequestOver = codes "its own request is over by then"
-reason_text GrantGone = codes "the grant that it took is gone by then"
-reason_text BoundedTenure = codes "the scenario bounds the cycles of a tenure"
-reason_text StillRequested = codes "the request is still there when the cycle begins"
+reason_text GrantPassedOn = codes "a grant that was passed on cannot be taken"
+reason_text AcknowledgePassedOn = codes "an acknowledge that was passed on cannot be answered"
+reason_text SeenOnItsWire = codes "the request must be visible on the board's own BR*"
+reason_text RequestOver = codes "the owner has ended its own request by then"
+reason_text GrantGone = codes "the grant that the owner took has ended by then"
+reason_text BoundedTenure = codes "the scenario limits the cycles of a tenure"
+reason_text StillRequested = codes "the interrupt is still requested when the cycle begins"
 reason_text BlocksLeftOut = codes "block and read-modify-write cycles are left out"
 reason_text AddressOffFirst = codes "the address goes off before AS* rises"
 reason_text PipeliningLeftOut = codes "address pipelining is left out"
 reason_text AddressOnlyLeftOut = codes "address-only cycles are left out"
-reason_text TimerCountsTime = codes "the standard's bus timer counts time alone"
-reason_text TimeOfVersionTwo = codes "it stands for a time of version 2"
+reason_text TimerCountsTime = codes "the standard's bus timer measures time only"
+reason_text TimeOfVersionTwo = codes "it takes the place of a time of version 2"
 
 -- a condition that a chapter asks for
 abbrev pub standard : Condition → Chapter → Sourced
@@ -80,7 +81,7 @@ interrupters_sources G23 =
 interrupters_sources G24 = standard AddressStrobeHigh Interrupts ∷ []
 interrupters_sources G25 =
     each_cycle DataStrobeLow ∷ standard AddressStrobeLow DataTransfer
-    ∷ standard AcknowledgeInLow Interrupts ∷ profile OwnAcknowledgeOutHigh PassedOnIsLost
+    ∷ standard AcknowledgeInLow Interrupts ∷ profile OwnAcknowledgeOutHigh AcknowledgePassedOn
     ∷ standard Pending Interrupts ∷ standard OwnSlotShown DataTransfer
     ∷ standard CycleShown DataTransfer ∷ []
 interrupters_sources G26 = standard DataStrobeHigh DataTransfer ∷ []
@@ -114,7 +115,7 @@ requesters_sources G11 =
     ∷ standard OwnBusyHigh Arbitration ∷ []
 requesters_sources G12 = standard GrantInHigh Arbitration ∷ []
 requesters_sources G13 =
-    standard GrantInLow Arbitration ∷ profile OwnGrantOutHigh PassedOnIsLost
+    standard GrantInLow Arbitration ∷ profile OwnGrantOutHigh GrantPassedOn
     ∷ profile OwnRequestLow SeenOnItsWire ∷ []
 requesters_sources G14 =
     profile OwnRequestHigh RequestOver ∷ profile GrantInHigh GrantGone

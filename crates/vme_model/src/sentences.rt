@@ -172,25 +172,27 @@ impl Rule {
         ensures short { length result.now ≤ 160 }
     {
         match self {
-            Rule::E1 => "An edge needs a board in its slot, and a board that has the wire.",
-            Rule::E2 => "A wire goes to its other state only.",
+            Rule::E1 => "An edge needs a board in its slot, and the board must have the wire.",
+            Rule::E2 => "A wire can only change to its other state.",
             Rule::G1 => {
                 "The arbiter grants the level that its policy picks, one grant at a time, while \
                  the bus has no owner."
             }
             Rule::G2 => {
-                "A grant stands until a board has taken it. Version 2: it may also time out, by S3."
+                "A grant stays asserted until a board has taken it. Version 2: it may also time \
+                 out, by S3."
             }
             Rule::G3 => {
-                "A priority arbiter asks the owner to make room for a request of a higher level."
+                "A priority arbiter asks the owner to release the bus for a request of a higher \
+                 level."
             }
-            Rule::G4 => "Bus clear stands as long as its reason lasts.",
+            Rule::G4 => "Bus clear stays asserted as long as it is due.",
             Rule::G5 => {
-                "The daisy-chain driver starts the IACK chain of the acknowledge that is shown."
+                "The daisy-chain driver starts the IACK chain for the acknowledge that is shown."
             }
             Rule::G6 => "The daisy-chain driver keeps the IACK chain low until the cycle ends.",
             Rule::G7 => "The bus timer ends a cycle that nobody answers.",
-            Rule::G8 => "A bus error stands until the master has seen it.",
+            Rule::G8 => "A bus error stays asserted until the master has seen it.",
             _ => self.board_sentence(),
         }
     }
@@ -202,24 +204,26 @@ impl Rule {
     {
         match self {
             Rule::G9 => "The owner of the bus does not request it.",
-            Rule::G10 => "A request stands until it is met. Version 2: it may be withdrawn.",
+            Rule::G10 => {
+                "A request stays asserted until it is met. Version 2: it may be withdrawn."
+            }
             Rule::G11 => "A board that does not want the grant passes it on.",
-            Rule::G12 => "A grant chain rises from its beginning onward.",
+            Rule::G12 => "A grant chain rises board by board, from its beginning.",
             Rule::G13 => "A requester takes the grant that reaches it.",
             Rule::G14 => {
-                "An owner gives the bus up once its last transfer has begun and no old grant is \
+                "An owner releases the bus once its last transfer has begun and no old grant is \
                  left; with ROR, only while a board requests the bus."
             }
             Rule::G15 => {
-                "The owner begins a cycle once the one before has ended; with RWD within its \
-                 burst; and it acknowledges what it handles and what is requested."
+                "The owner begins a cycle once the one before has ended; with RWD, only within \
+                 its burst; and it acknowledges only what it handles and what is requested."
             }
-            Rule::G16 => "The address strobe says that the address is good.",
+            Rule::G16 => "The address strobe says that the address is valid.",
             Rule::G17 => {
-                "A data strobe waits until the last answer is gone, and comes once in a cycle."
+                "A data strobe waits until the last answer has ended, and falls once in a cycle."
             }
-            Rule::G18 => "A data strobe stands until it is answered.",
-            Rule::G19 => "The address goes off once its one transfer is over.",
+            Rule::G18 => "A data strobe stays asserted until it is answered.",
+            Rule::G19 => "The address goes off once its only transfer is over.",
             Rule::G20 => "A cycle ends once its address is off.",
             _ => self.interrupters_sentence(),
         }
@@ -231,10 +235,10 @@ impl Rule {
         ensures short { length result.now ≤ 160 }
     {
         match self {
-            Rule::G21 => "An interrupt request may come at any time.",
+            Rule::G21 => "A board may request an interrupt at any time.",
             Rule::G22 => {
-                "An interrupt request stands until it is served: with ROAK by an acknowledge, \
-                 with RORA by an access."
+                "An interrupt request stays asserted until it is served: with ROAK by an \
+                 acknowledge, with RORA by an access."
             }
             Rule::G23 => {
                 "A board with nothing pending at the level shown passes the acknowledge on."
@@ -244,7 +248,7 @@ impl Rule {
                 "The first pending board that an acknowledge reaches answers it, and a board \
                  answers an access to its slot."
             }
-            Rule::G26 => "An answer stands until the master has seen it.",
+            Rule::G26 => "An answer stays asserted until the master has seen it.",
             _ => self.other_sentence(),
         }
     }
@@ -255,10 +259,10 @@ impl Rule {
         ensures short { length result.now ≤ 160 }
     {
         match self {
-            Rule::S1 => "No cycle begins before the IACK chain of the last one is high again.",
-            Rule::S2 => "The bus timer waits until nobody is left to answer.",
+            Rule::S1 => "No cycle begins until the IACK chain of the last cycle is high again.",
+            Rule::S2 => "The bus timer waits until no board is left that can answer.",
             Rule::S3 => "Version 2: a grant times out only when it has passed every board.",
-            Rule::S4 => "Version 2: a new grant does not follow one that is still rising.",
+            Rule::S4 => "Version 2: a new grant waits until the last one has risen at every board.",
             Rule::E5 => "A trace has at most 1,048,576 accepted edges.",
             _ => "",
         }

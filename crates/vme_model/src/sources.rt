@@ -22,31 +22,33 @@ pub enum Chapter {
 /// Why a condition is the profile's. Source: profile.
 #[derive(Clone, Copy, PartialEq, Eq, Debug)]
 pub enum Reason {
-    /// It waits until all four drivers are high.
+    /// The standard does not ask for all four.
     AllDrivers,
-    /// The policies are chapter 3's; that the pick is of this moment is ours.
+    /// The policies are chapter 3's; only the moment of the pick is ours.
     ThisMoment,
     /// BCLR* from an RRS arbiter is left out.
     RoundRobinLeftOut,
-    /// It waits until the grants are high again.
+    /// Bus clear waits until the grants are high again.
     GrantsHighAgain,
-    /// It also ends when the request goes away.
+    /// Bus clear also ends once no higher request is left.
     RequestGone,
-    /// The owner has what it would request.
+    /// The owner does not need to request the bus.
     OwnerHasIt,
     /// No request is withdrawn.
     NotWithdrawn,
-    /// What was passed on is lost.
-    PassedOnIsLost,
-    /// That it asks is seen on its own wire.
+    /// A grant that was passed on cannot be taken.
+    GrantPassedOn,
+    /// An acknowledge that was passed on cannot be answered.
+    AcknowledgePassedOn,
+    /// The request must be visible on the board's own BR*.
     SeenOnItsWire,
-    /// Its own request is over by then.
+    /// The owner has ended its own request by then.
     RequestOver,
-    /// The grant that it took is gone by then.
+    /// The grant that the owner took has ended by then.
     GrantGone,
-    /// The scenario bounds the cycles of a tenure.
+    /// The scenario limits the cycles of a tenure.
     BoundedTenure,
-    /// The request is still there when the cycle begins.
+    /// The interrupt is still requested when the cycle begins.
     StillRequested,
     /// Block and read-modify-write cycles are left out.
     BlocksLeftOut,
@@ -56,9 +58,9 @@ pub enum Reason {
     PipeliningLeftOut,
     /// Address-only cycles are left out.
     AddressOnlyLeftOut,
-    /// The standard's bus timer counts time alone.
+    /// The standard's bus timer measures time only.
     TimerCountsTime,
-    /// It stands for a time of version 2.
+    /// It takes the place of a time of version 2.
     TimeOfVersionTwo,
 }
 
@@ -115,27 +117,28 @@ impl Reason {
         ensures short { length result.now ≤ 70 }
     {
         match self {
-            Reason::AllDrivers => "it waits until all four drivers are high",
+            Reason::AllDrivers => "the standard does not ask for all four",
             Reason::ThisMoment => {
-                "the policies are chapter 3's; that the pick is of this moment is ours"
+                "the policies are chapter 3's; only the moment of the pick is ours"
             }
             Reason::RoundRobinLeftOut => "BCLR* from an RRS arbiter is left out",
-            Reason::GrantsHighAgain => "it waits until the grants are high again",
-            Reason::RequestGone => "it also ends when the request goes away",
-            Reason::OwnerHasIt => "the owner has what it would request",
+            Reason::GrantsHighAgain => "bus clear waits until the grants are high again",
+            Reason::RequestGone => "bus clear also ends once no higher request is left",
+            Reason::OwnerHasIt => "the owner does not need to request the bus",
             Reason::NotWithdrawn => "no request is withdrawn",
-            Reason::PassedOnIsLost => "what was passed on is lost",
-            Reason::SeenOnItsWire => "that it asks is seen on its own wire",
-            Reason::RequestOver => "its own request is over by then",
-            Reason::GrantGone => "the grant that it took is gone by then",
-            Reason::BoundedTenure => "the scenario bounds the cycles of a tenure",
-            Reason::StillRequested => "the request is still there when the cycle begins",
+            Reason::GrantPassedOn => "a grant that was passed on cannot be taken",
+            Reason::AcknowledgePassedOn => "an acknowledge that was passed on cannot be answered",
+            Reason::SeenOnItsWire => "the request must be visible on the board's own BR*",
+            Reason::RequestOver => "the owner has ended its own request by then",
+            Reason::GrantGone => "the grant that the owner took has ended by then",
+            Reason::BoundedTenure => "the scenario limits the cycles of a tenure",
+            Reason::StillRequested => "the interrupt is still requested when the cycle begins",
             Reason::BlocksLeftOut => "block and read-modify-write cycles are left out",
             Reason::AddressOffFirst => "the address goes off before AS* rises",
             Reason::PipeliningLeftOut => "address pipelining is left out",
             Reason::AddressOnlyLeftOut => "address-only cycles are left out",
-            Reason::TimerCountsTime => "the standard's bus timer counts time alone",
-            Reason::TimeOfVersionTwo => "it stands for a time of version 2",
+            Reason::TimerCountsTime => "the standard's bus timer measures time only",
+            Reason::TimeOfVersionTwo => "it takes the place of a time of version 2",
         }
     }
 }
@@ -209,7 +212,7 @@ impl Rule {
             Rule::G12 => &[row!(GrantInHigh, Standard(Chapter::Arbitration))],
             Rule::G13 => &[
                 row!(GrantInLow, Standard(Chapter::Arbitration)),
-                row!(OwnGrantOutHigh, Profile(Reason::PassedOnIsLost)),
+                row!(OwnGrantOutHigh, Profile(Reason::GrantPassedOn)),
                 row!(OwnRequestLow, Profile(Reason::SeenOnItsWire)),
             ],
             Rule::G14 => &[
@@ -275,7 +278,7 @@ impl Rule {
                 row!(DataStrobeLow, EachCycle),
                 row!(AddressStrobeLow, Standard(Chapter::DataTransfer)),
                 row!(AcknowledgeInLow, Standard(Chapter::Interrupts)),
-                row!(OwnAcknowledgeOutHigh, Profile(Reason::PassedOnIsLost)),
+                row!(OwnAcknowledgeOutHigh, Profile(Reason::AcknowledgePassedOn)),
                 row!(Pending, Standard(Chapter::Interrupts)),
                 row!(OwnSlotShown, Standard(Chapter::DataTransfer)),
                 row!(CycleShown, Standard(Chapter::DataTransfer)),

@@ -16,10 +16,10 @@ use Rattle.vme_moments.specs.Reading as moments
 use Rattle.vme_order_search.specs.TooMany.{HasTooMany}
 use Rattle.vme_order_search.specs.declared.OrderFault.{OrderFault}
 use Rattle.vme_order_search.specs.declared.OrderFault.TheVariants.{TooManyOrders, NoMemory}
-use Rattle.vme_engines.specs.declared.Status.{Status}
-use Rattle.vme_engines.specs.declared.EngineFault.TheVariants as engine
-use Rattle.vme_engines.specs.Outcomes.{scenario_limit}
-use Rattle.vme_engines.specs.Streams.{IsInput, ReadNothing, Streams, Wrote, WroteFront, WroteNothing}
+use Rattle.vme_reading.specs.declared.Status.{Status}
+use Rattle.vme_reading.specs.declared.EngineFault.TheVariants as engine
+use Rattle.vme_reading.specs.Outcomes.{scenario_limit}
+use Rattle.vme_reading.specs.Streams.{IsInput, ReadNothing, Streams, Wrote, WroteFront, WroteNothing}
 use Rattle.vme_order.specs.declared.Form.{Form}
 use Rattle.vme_order.specs.declared.OrderingFault.TheVariants as fault
 use Rattle.vme_order.specs.Faults.{search_fault}

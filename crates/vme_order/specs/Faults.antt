@@ -3,8 +3,8 @@ use Rattle.vme_trace.specs.declared.Fault.{Fault}
 use Rattle.vme_moments.specs.declared.MomentsFault.{MomentsFault}
 use Rattle.vme_order_search.specs.declared.OrderFault.{OrderFault}
 use Rattle.vme_order_search.specs.declared.OrderFault.TheVariants.{TooManyOrders, NoMemory}
-use Rattle.vme_engines.specs.declared.EngineFault.{EngineFault}
-use Rattle.vme_engines.specs.declared.EngineFault.TheVariants as engine
+use Rattle.vme_reading.specs.declared.EngineFault.{EngineFault}
+use Rattle.vme_reading.specs.declared.EngineFault.TheVariants as engine
 use Rattle.vme_order.specs.declared.OrderingFault.{OrderingFault}
 use Rattle.vme_order.specs.declared.OrderingFault.TheVariants as fault
 

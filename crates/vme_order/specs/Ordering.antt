@@ -23,11 +23,11 @@ use Rattle.vme_moments.specs.Reading.{CanGoOn, IsFaultOf}
 use Rattle.vme_moments.specs.declared.MomentsFault.TheVariants as moments
 use Rattle.vme_moments.specs.Orders.{IsLongest, AreNext}
 use Rattle.vme_order_search.specs.TooMany.{HasTooMany}
-use Rattle.vme_engines.specs.declared.Status.{Status}
-use Rattle.vme_engines.specs.declared.Status.TheVariants.{Done, SomeRefused}
-use Rattle.vme_engines.specs.declared.EngineFault.TheVariants as engine
-use Rattle.vme_engines.specs.Outcomes.{scenario_limit}
-use Rattle.vme_engines.specs.Streams.{Streams, HasConsumed, IsInput, IsReadOut, ReadNothing, Wrote, WroteFront, WroteNothing}
+use Rattle.vme_reading.specs.declared.Status.{Status}
+use Rattle.vme_reading.specs.declared.Status.TheVariants.{Done, SomeRefused}
+use Rattle.vme_reading.specs.declared.EngineFault.TheVariants as engine
+use Rattle.vme_reading.specs.Outcomes.{scenario_limit}
+use Rattle.vme_reading.specs.Streams.{Streams, HasConsumed, IsInput, IsReadOut, ReadNothing, Wrote, WroteFront, WroteNothing}
 use Rattle.vme_order.specs.declared.Form.{Form}
 use Rattle.vme_order.specs.declared.Form.TheVariants.{Trace, Places}
 use Rattle.vme_order.specs.declared.OrderingFault.{OrderingFault}

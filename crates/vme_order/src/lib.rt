@@ -9,9 +9,9 @@ mod orders;
 
 pub use orders::order;
 use thiserror::Error;
-use vme_engines::EngineFault;
 use vme_moments::MomentsFault;
 pub use vme_order_search::OrderProgress;
+use vme_reading::EngineFault;
 
 /// What is written of an order.
 #[derive(Clone, Copy, PartialEq, Eq, Debug)]

@@ -3,7 +3,7 @@ ghost use Rattle.std.specs.Prelude.{◌≡◌, ◌<◌, All, IfErr, IsTrue, Matc
 ghost use Rattle.std.specs.Io.KnownBytes.{Appends};
 ghost use Rattle.vme_model.specs.Signals.{is_well_formed};
 ghost use Rattle.vme_trace.specs.Writing.{AppendsFront};
-ghost use Rattle.vme_engines.specs.Streams.{ReadNothing, WroteNothing, streams};
+ghost use Rattle.vme_reading.specs.Streams.{ReadNothing, WroteNothing, streams};
 ghost use Rattle.vme_order.specs.Ordering.{IsFirstEmpty, LentText, NamesBoards, OrdersInput, found_text, status_of};
 ghost use Rattle.vme_order.specs.Faults.{engine_fault, moments_fault, output_fault, search_fault};
 
@@ -12,10 +12,10 @@ use crate::{Form, OrderingFault};
 use std::alloc::Global;
 use std::io::{Read, Write};
 use vme_bus::Bus;
-use vme_engines::{EngineFault, Status, plan_of};
 use vme_model::Driver;
 use vme_moments::{Moments, MomentsFault, Slacks, read_moments};
 use vme_order_search::{Found, OrderFault, OrderProgress, longest};
+use vme_reading::{EngineFault, Status, plan_of};
 use vme_slots::Plan;
 use vme_trace::{Fault, flush};
 

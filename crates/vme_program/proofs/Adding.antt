@@ -17,12 +17,12 @@ use Rattle.vme_summary.specs.Tally.{Answers, refused}
 use Rattle.vme_summary.specs.Sums.{Traces, sums_text, total}
 use Rattle.vme_summary.specs.Summed.{AreSumsOf, OfSums}
 use Rattle.vme_summary.proofs.AddedTraces.{one_more}
-use Rattle.vme_engines.specs.declared.Status.{Status}
-use Rattle.vme_engines.specs.declared.EngineFault.TheVariants as fault
-use Rattle.vme_engines.specs.Streams.{ReadNothing, streams}
-use Rattle.vme_engines.specs.Outcomes.{Answer, Lent, LentAsking, scenario_limit, status_with}
+use Rattle.vme_reading.specs.declared.Status.{Status}
+use Rattle.vme_reading.specs.declared.EngineFault.TheVariants as fault
+use Rattle.vme_reading.specs.Streams.{ReadNothing, streams}
+use Rattle.vme_reading.specs.Outcomes.{Answer, Lent, LentAsking, scenario_limit, status_with}
 use Rattle.vme_engines.specs.Totals.{AddsInput, IsWhole}
-use Rattle.vme_engines.proofs.WrittenLines.{front_behind, front_of_more}
+use Rattle.vme_reading.proofs.WrittenLines.{front_behind, front_of_more}
 use Rattle.vme_command_line.specs.declared.Job.{Job}
 use Rattle.vme_command_line.specs.Asked.{texts_of}
 use Rattle.vme_program.specs.declared.sums.Added.{Added}

@@ -5,17 +5,17 @@ use Rattle.std.specs.Io.KnownBytes.{Appends}
 use Rattle.vme_trace.specs.declared.Fault.TheVariants.{Write}
 use Rattle.vme_trace.specs.Writing.{AppendsFront}
 use Rattle.vme_model.specs.Plan.{Plan}
-use Rattle.vme_engines.specs.declared.Status.{Status}
+use Rattle.vme_reading.specs.declared.Status.{Status}
 use Rattle.vme_program.specs.Comparisons.{WasFound, comparison_lines, comparison_status}
 use Rattle.vme_program.specs.declared.faults.ProgramFault.{ProgramFault}
 use Rattle.vme_program.specs.declared.faults.ProgramFault.TheVariants.{Engine}
 use Rattle.std.specs.Borrow.{Bor}
 use Rattle.std.proofs.KnownBytes.{Keeps-refl}
-use Rattle.vme_engines.specs.declared.EngineFault.TheVariants as fault
-use Rattle.vme_engines.specs.declared.pairs.PairFault.{PairFault}
-use Rattle.vme_engines.specs.declared.pairs.PairFault.TheVariants as pair
-use Rattle.vme_engines.specs.Streams.{Streams, ReadNothing}
-use Rattle.vme_engines.specs.Pairs.{LentPair, ReadsPair}
+use Rattle.vme_reading.specs.declared.EngineFault.TheVariants as fault
+use Rattle.vme_reading.specs.declared.pairs.PairFault.{PairFault}
+use Rattle.vme_reading.specs.declared.pairs.PairFault.TheVariants as pair
+use Rattle.vme_reading.specs.Streams.{Streams, ReadNothing}
+use Rattle.vme_reading.specs.Pairs.{LentPair, ReadsPair}
 use Rattle.vme_same.specs.Comparing.{IsComparison}
 use Rattle.vme_same.specs.declared.comparisons.Comparison.{Comparison}
 use Rattle.vme_command_line.specs.declared.Job.TheVariants.{Same}

@@ -7,7 +7,7 @@ use Rattle.std.proofs.KnownBytes.{Appends-trans}
 use Rattle.std.proofs.lemmas.Grind.{flat_map-append}
 use Rattle.vme_trace.specs.declared.Fault.{Fault}
 use Rattle.vme_trace.specs.Writing.{AppendsFront}
-use Rattle.vme_engines.proofs.WrittenLines.{front_behind, front_of_more}
+use Rattle.vme_reading.proofs.WrittenLines.{front_behind, front_of_more}
 use Rattle.vme_escapes.specs.Shown.{shown}
 
 module _ (a b c : Option (List ℕ)) (cs : List ℕ) (x : ℕ) (so_far : Appends a b (flat_map shown cs)) where

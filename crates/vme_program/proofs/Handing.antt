@@ -5,13 +5,13 @@ use Rattle.std.specs.Borrow.{Bor}
 use Rattle.vme_model.specs.declared.signals.Version.{Version}
 use Rattle.vme_model.specs.Plan.{Plan}
 use Rattle.vme_trace.specs.declared.Fault.{Fault}
-use Rattle.vme_engines.specs.declared.Status.{Status}
-use Rattle.vme_engines.specs.declared.EngineFault.TheVariants as fault
-use Rattle.vme_engines.specs.Streams.{Streams, ReadNothing, WroteNothing, streams}
-use Rattle.vme_engines.specs.Outcomes.{Answer, LentAsking}
+use Rattle.vme_reading.specs.declared.Status.{Status}
+use Rattle.vme_reading.specs.declared.EngineFault.TheVariants as fault
+use Rattle.vme_reading.specs.Streams.{Streams, ReadNothing, WroteNothing, streams}
+use Rattle.vme_reading.specs.Outcomes.{Answer, LentAsking}
 use Rattle.vme_engines.specs.Joining.{Joins}
-use Rattle.vme_engines.specs.Readings.{ReadsInput, ReadsLent}
-use Rattle.vme_engines.specs.declared.EngineFault.{EngineFault}
+use Rattle.vme_reading.specs.Readings.{ReadsInput, ReadsLent}
+use Rattle.vme_reading.specs.declared.EngineFault.{EngineFault}
 use Rattle.vme_races.specs.Other.{Orders}
 use Rattle.vme_races.specs.declared.other.OtherOrder.{OtherOrder as Other}
 use Rattle.vme_races.specs.declared.other.OtherOrder.TheVariants as other
@@ -22,10 +22,12 @@ use Rattle.vme_moments.specs.declared.slacks.Slacks.{Slacks}
 use Rattle.vme_order.specs.declared.Form.{Form}
 use Rattle.vme_order.specs.declared.OrderingFault.TheVariants as order
 use Rattle.vme_order.specs.Ordering.{Answer as OrderAnswer, LentText, OrdersInput}
-use Rattle.vme_command_line.specs.declared.Job.TheVariants.{Joined, OtherOrder, Order, Run}
+use Rattle.vme_probe.specs.declared.ProbeFault.TheVariants as probe
+use Rattle.vme_probe.specs.Probing.{Answer as ProbeAnswer, LentText as LentCapture, ProbesInput}
+use Rattle.vme_command_line.specs.declared.Job.TheVariants.{Joined, OtherOrder, Order, Probe, Run}
 use Rattle.vme_program.specs.declared.faults.ProgramFault.{ProgramFault}
 use Rattle.vme_program.specs.Done.{Alone, Hands, IsDone, Known, OnTrace}
-use Rattle.vme_program.specs.Names.{form_of, answer_named, order_answer_named, other_answer_named, run_answer_named}
+use Rattle.vme_program.specs.Names.{form_of, answer_named, order_answer_named, other_answer_named, probe_answer_named, run_answer_named}
 
 pub handed : (Stops : List ℕ → Fault → Type 0) (Fails : ProgramFault → Type 0) (Does : Answer → Type 0) (nothing : Type 0) (name : Bor (List ℕ)) (answer : Answer) → Does answer
     → (Does (Err fault.CannotRead) → nothing) → (Does (Err fault.TooLong) → nothing) → Hands (Alone Does) Stops Fails nothing (answer_named name answer)
@@ -100,3 +102,16 @@ pub order_formed : (scenario moments : Bor (List ℕ)) (text : List ℕ) (slacks
 order_formed scenario moments text slacks places progress form from to old new answer is does =
     order_done scenario moments text slacks places progress from to old new answer
     (subst (λ (f : Form). LentText text (ReadNothing (streams from to old new) × WroteNothing (streams from to old new)) (OrdersInput f slacks (streams from to old new)) answer) is does)
+
+-- an engine on a scenario and a capture
+pub probe_done : (scenario capture : Bor (List ℕ)) (text : List ℕ) (from to old new : Known) (answer : ProbeAnswer)
+    → LentCapture text (ReadNothing (streams from to old new) × WroteNothing (streams from to old new)) (ProbesInput (streams from to old new)) answer
+    → IsDone (Probe scenario capture) old new (probe_answer_named scenario answer)
+probe_done scenario capture text from to old new (Ok status) does = (text, from, to, does)
+probe_done scenario capture text from to old new (Err (probe.Engine fault.CannotRead)) does = absurd does.3.2
+probe_done scenario capture text from to old new (Err (probe.Engine fault.TooLong)) does = does.1.1
+probe_done scenario capture text from to old new (Err (probe.Engine (fault.Scenario e))) does = inl (text, from, to, does)
+probe_done scenario capture text from to old new (Err (probe.Engine (fault.Trace f))) does = inl (text, from, to, does)
+probe_done scenario capture text from to old new (Err (probe.Engine (fault.Beyond n))) does = inl (text, from, to, does)
+probe_done scenario capture text from to old new (Err (probe.Engine fault.NoMemory)) does = inl (text, from, to, does)
+probe_done scenario capture text from to old new (Err (probe.Capture f)) does = (text, from, to, does)

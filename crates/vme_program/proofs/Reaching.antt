@@ -8,12 +8,12 @@ use Rattle.vme_model.specs.Plan.{Plan}
 use Rattle.vme_scenario.specs.Format.{scenario as read}
 use Rattle.vme_goals.specs.declared.goals.Goal.{Goal}
 use Rattle.vme_reach.specs.Needs.{hindrance_of}
-use Rattle.vme_engines.specs.declared.EngineFault.{EngineFault}
-use Rattle.vme_engines.specs.declared.EngineFault.TheVariants as fault
+use Rattle.vme_reading.specs.declared.EngineFault.{EngineFault}
+use Rattle.vme_reading.specs.declared.EngineFault.TheVariants as fault
 use Rattle.vme_engines.specs.Drawing.{Draws}
 use Rattle.vme_engines.specs.Found.{Found, Finds, found_answer}
-use Rattle.vme_engines.specs.Outcomes.{Answer, Lent, scenario_limit}
-use Rattle.vme_engines.specs.Steps.{IsNoPlan}
+use Rattle.vme_reading.specs.Outcomes.{Answer, Lent, scenario_limit}
+use Rattle.vme_reading.specs.Steps.{IsNoPlan}
 use Rattle.vme_command_line.specs.declared.Job.{Job}
 use Rattle.vme_command_line.specs.declared.Job.TheVariants.{Draw, Search}
 use Rattle.vme_program.specs.declared.faults.ProgramFault.{ProgramFault}

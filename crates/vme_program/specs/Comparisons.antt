@@ -7,13 +7,13 @@ use Rattle.vme_model.specs.Plan.{Plan}
 use Rattle.vme_trace.specs.declared.Fault.{Fault}
 use Rattle.vme_trace.specs.declared.Fault.TheVariants.{Write}
 use Rattle.vme_trace.specs.Writing.{AppendsFront}
-use Rattle.vme_engines.specs.declared.Status.{Status}
-use Rattle.vme_engines.specs.declared.Status.TheVariants.{Done, SomeRefused}
-use Rattle.vme_engines.specs.declared.EngineFault.TheVariants as fault
-use Rattle.vme_engines.specs.declared.pairs.PairFault.TheVariants.{First, Second}
-use Rattle.vme_engines.specs.Streams.{Streams}
-use Rattle.vme_engines.specs.Outcomes.{Answer}
-use Rattle.vme_engines.specs.Pairs.{EitherMeets, IsReadWhole}
+use Rattle.vme_reading.specs.declared.Status.{Status}
+use Rattle.vme_reading.specs.declared.Status.TheVariants.{Done, SomeRefused}
+use Rattle.vme_reading.specs.declared.EngineFault.TheVariants as fault
+use Rattle.vme_reading.specs.declared.pairs.PairFault.TheVariants.{First, Second}
+use Rattle.vme_reading.specs.Streams.{Streams}
+use Rattle.vme_reading.specs.Outcomes.{Answer}
+use Rattle.vme_reading.specs.Pairs.{EitherMeets, IsReadWhole}
 use Rattle.vme_same.specs.Comparing.{IsComparison}
 use Rattle.vme_same.specs.Lines.{found_lines}
 use Rattle.vme_same.specs.declared.comparisons.Comparison.{Comparison}

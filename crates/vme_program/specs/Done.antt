@@ -9,11 +9,11 @@ use Rattle.vme_scenario.specs.Format.{scenario as read}
 use Rattle.vme_trace.specs.declared.Fault.{Fault}
 use Rattle.vme_trace.specs.declared.Fault.TheVariants.{Write}
 use Rattle.vme_trace.specs.Writing.{AppendsFront}
-use Rattle.vme_engines.specs.declared.Status.{Status}
-use Rattle.vme_engines.specs.declared.Status.TheVariants as ends
-use Rattle.vme_engines.specs.declared.EngineFault.TheVariants as fault
-use Rattle.vme_engines.specs.Streams.{Streams, ReadNothing, WroteNothing, streams}
-use Rattle.vme_engines.specs.Outcomes.{Answer, Lent, LentAsking, ReplaysInput}
+use Rattle.vme_reading.specs.declared.Status.{Status}
+use Rattle.vme_reading.specs.declared.Status.TheVariants as ends
+use Rattle.vme_reading.specs.declared.EngineFault.TheVariants as fault
+use Rattle.vme_reading.specs.Streams.{Streams, ReadNothing, WroteNothing, streams}
+use Rattle.vme_reading.specs.Outcomes.{Answer, Lent, LentAsking, ReplaysInput}
 use Rattle.vme_engines.specs.Checking.{ChecksInput}
 use Rattle.vme_engines.specs.Explaining.{ExplainsInput}
 use Rattle.vme_engines.specs.Stating.{StatesInput}
@@ -23,8 +23,8 @@ use Rattle.vme_engines.specs.Driving.{Drives}
 use Rattle.vme_engines.specs.Drawing.{Draws}
 use Rattle.vme_engines.specs.Found.{Found, Finds, found_answer}
 use Rattle.vme_engines.specs.Joining.{Joins}
-use Rattle.vme_engines.specs.Readings.{ReadsInput, ReadsLent}
-use Rattle.vme_engines.specs.declared.EngineFault.{EngineFault}
+use Rattle.vme_reading.specs.Readings.{ReadsInput, ReadsLent}
+use Rattle.vme_reading.specs.declared.EngineFault.{EngineFault}
 use Rattle.vme_cycles.specs.Outcomes.{ReportsInput}
 use Rattle.vme_run.specs.declared.RunFault.{RunFault}
 use Rattle.vme_run.specs.declared.RunFault.TheVariants as run
@@ -39,8 +39,10 @@ use Rattle.vme_moments.specs.declared.slacks.Slacks.{Slacks}
 use Rattle.vme_order.specs.declared.Form.{Form}
 use Rattle.vme_order.specs.declared.OrderingFault.TheVariants as order
 use Rattle.vme_order.specs.Ordering.{Answer as OrderAnswer, LentText, OrdersInput}
+use Rattle.vme_probe.specs.declared.ProbeFault.TheVariants as probe
+use Rattle.vme_probe.specs.Probing.{Answer as ProbeAnswer, LentText as LentCapture, ProbesInput}
 use Rattle.vme_command_line.specs.declared.Job.{Job}
-use Rattle.vme_command_line.specs.declared.Job.TheVariants.{Joined, OwnVersion, Replay, Check, Checks, Cycles, Explain, Shrink, Rules, State, Show, Summary, Sums, Races, Walk, OtherOrder, Same, Order, Drive, Draw, Search, Run}
+use Rattle.vme_command_line.specs.declared.Job.TheVariants.{Joined, OwnVersion, Replay, Check, Checks, Cycles, Explain, Shrink, Rules, State, Show, Summary, Sums, Races, Walk, OtherOrder, Same, Order, Probe, Drive, Draw, Search, Run}
 use Rattle.vme_command_line.specs.Asked.{Ask, texts_of}
 use Rattle.vme_command_line.specs.declared.TheConstants.{VERSION}
 use Rattle.vme_program.specs.CheckedFiles.{ChecksFiles, HasFaulty}
@@ -50,7 +52,7 @@ use Rattle.vme_program.specs.Reaching.{GivesUp, Unhindered}
 use Rattle.vme_program.specs.Statuses.{exit_code}
 use Rattle.vme_program.specs.Together.{LacksFiles, SumsFiles}
 use Rattle.vme_program.specs.declared.faults.ProgramFault.{ProgramFault}
-use Rattle.vme_program.specs.declared.faults.ProgramFault.TheVariants.{CannotRead, TooLong, Engine, InTrace, SomeTraces, NoRace, NeverComes, Boards, Ordering}
+use Rattle.vme_program.specs.declared.faults.ProgramFault.TheVariants.{CannotRead, TooLong, Engine, InTrace, SomeTraces, NoRace, NeverComes, Boards, Ordering, Capture}
 
 abbrev pub Known : Type 0
 Known = Option (List ℕ)
@@ -89,6 +91,18 @@ abbrev pub Ordered : (OrderAnswer → Type 0) → Result Status RunFault → Typ
 Ordered Ends (Ok status) = Ends (Ok status)
 Ordered Ends (Err (run.Engine f)) = Ends (Err (order.Engine f))
 Ordered Ends (Err _) = ⊥
+
+-- what the engine `probe` does on a plan and a capture
+abbrev pub OnCapture : Known → Known → ProbeAnswer → Type 0
+OnCapture old new answer = (text : List ℕ) × (from : Known) × (to : Known)
+    × (let s = streams from to old new in
+    LentCapture text (ReadNothing s × WroteNothing s) (ProbesInput s) answer)
+
+-- the answer of `probe`, without the faults of the capture
+abbrev pub Probed : (ProbeAnswer → Type 0) → Result Status RunFault → Type 0
+Probed Ends (Ok status) = Ends (Ok status)
+Probed Ends (Err (run.Engine f)) = Ends (Err (probe.Engine f))
+Probed Ends (Err _) = ⊥
 
 -- what the engine of `races --other` does on a plan and a trace
 abbrev pub OnRace : ℕ → Known → Known → Result Other EngineFault → Type 0
@@ -136,6 +150,7 @@ Does (Same scenario trace other) old new = Alone (λ answer.
     × LentAsking text (Keeps old new) (ComparesFiles trace.now other.now old new) answer)
 Does (Order scenario moments slacks places progress) old new =
     Ordered (OnMoments (form_of places) slacks old new)
+Does (Probe scenario capture) old new = Probed (OnCapture old new)
 Does (Drive scenario edges version) old new = Alone (λ answer.
     (text : List ℕ) × Lent text (Keeps old new) (Drives version edges old new) answer)
 Does (Draw scenario edges seed until version) old new = Alone (λ answer.
@@ -160,6 +175,7 @@ Fails (Checks scenario traces) old new SomeTraces = HasFaulty (texts_of traces.i
 Fails (Sums scenario traces) old new SomeTraces = LacksFiles (texts_of traces.items) old new
 Fails (Order scenario moments slacks places progress) old new (Ordering f) =
     OnMoments (form_of places) slacks old new (Err f)
+Fails (Probe scenario capture) old new (Capture f) = OnCapture old new (Err (probe.Capture f))
 Fails (OtherOrder scenario trace edge) old new (NoRace asked) =
     (asked ≡ edge) × OnRace edge old new (Ok other.NoRace)
 Fails (Draw scenario edges seed until version) old new (NeverComes why) = GivesUp until old new why
@@ -183,6 +199,7 @@ Hands Ends Stops Fails nothing (Err SomeTraces) = Fails SomeTraces
 Hands Ends Stops Fails nothing (Err (NoRace edge)) = Fails (NoRace edge)
 Hands Ends Stops Fails nothing (Err (NeverComes why)) = Fails (NeverComes why)
 Hands Ends Stops Fails nothing (Err (Ordering f)) = Fails (Ordering f)
+Hands Ends Stops Fails nothing (Err (Capture f)) = Fails (Capture f)
 
 -- the job is done in this way
 abbrev pub IsDone : Job → Known → Known → Result Status ProgramFault → Type 0

@@ -6,20 +6,22 @@ use Rattle.vme_scenario.specs.declared.ScenarioError.{ScenarioError}
 use Rattle.vme_scenario.specs.declared.ScenarioError.TheVariants as scenario
 use Rattle.vme_trace.specs.declared.Fault.{Fault}
 use Rattle.vme_trace.specs.declared.Fault.TheVariants as trace
-use Rattle.vme_engines.specs.declared.EngineFault.{EngineFault}
-use Rattle.vme_engines.specs.declared.EngineFault.TheVariants as engine
+use Rattle.vme_reading.specs.declared.EngineFault.{EngineFault}
+use Rattle.vme_reading.specs.declared.EngineFault.TheVariants as engine
 use Rattle.vme_moments.specs.declared.MomentsFault.{MomentsFault}
 use Rattle.vme_moments.specs.declared.MomentsFault.TheVariants as moments
+use Rattle.vme_captures.specs.declared.CaptureFault.{CaptureFault}
+use Rattle.vme_captures.specs.declared.CaptureFault.TheVariants as capture
 use Rattle.vme_order.specs.declared.OrderingFault.{OrderingFault}
 use Rattle.vme_order.specs.declared.OrderingFault.TheVariants as order
 use Rattle.vme_run.specs.declared.RunFault.{RunFault}
 use Rattle.vme_run.specs.declared.RunFault.TheVariants as run
 use Rattle.vme_rulebook.specs.declared.Code.{Code}
-use Rattle.vme_rulebook.specs.declared.Code.TheVariants.{F1, F2, F3, F4, F5, F6, L3, L4, L6, P1, P2, P3, P4, P5, P6, P7, P8, P9, Q1, Q2, Q3, Q4, Q6, X1, X2, X3, X4, X5, X6, X8, X9, X10, X11, X17}
+use Rattle.vme_rulebook.specs.declared.Code.TheVariants.{F1, F2, F3, F4, F5, F6, L3, L4, L6, P1, P2, P3, P4, P5, P6, P7, P8, P9, Q1, Q2, Q3, Q4, Q6, X1, X2, X3, X4, X5, X6, X8, X9, X10, X11, X12, X13, X14, X15, X16, X17}
 use Rattle.vme_program.specs.declared.arguments.WordsFault.{WordsFault}
 use Rattle.vme_program.specs.declared.arguments.WordsFault.TheVariants as given
 use Rattle.vme_program.specs.declared.faults.ProgramFault.{ProgramFault}
-use Rattle.vme_program.specs.declared.faults.ProgramFault.TheVariants.{CannotRead, TooLong, Engine, InTrace, SomeTraces, NoRace, NeverComes, Boards, Ordering}
+use Rattle.vme_program.specs.declared.faults.ProgramFault.TheVariants.{CannotRead, TooLong, Engine, InTrace, SomeTraces, NoRace, NeverComes, Boards, Ordering, Capture}
 
 -- of a backplane
 abbrev pub code_of_plan : PlanError → Code
@@ -76,6 +78,16 @@ code_of_order (order.Moments f) = code_of_moments f
 code_of_order (order.NoBoard slot) = None
 code_of_order order.TooManyOrders = Some F5
 
+-- of a capture
+abbrev pub code_of_capture : CaptureFault → Option Code
+code_of_capture (capture.Trace f) = code_of_trace f
+code_of_capture (capture.Earlier n) = Some X10
+code_of_capture (capture.NoPin n) = Some X12
+code_of_capture (capture.SameWire n) = Some X13
+code_of_capture (capture.NotProbed n) = Some X14
+code_of_capture (capture.NoChange n) = Some X15
+code_of_capture (capture.NoLine n) = Some X16
+
 -- of `run`
 abbrev pub code_of_run : RunFault → Option Code
 code_of_run (run.Engine f) = code_of_engine f
@@ -94,6 +106,7 @@ code_of (NoRace edge) = Some X11
 code_of (NeverComes why) = None
 code_of (Boards f) = code_of_run f
 code_of (Ordering f) = code_of_order f
+code_of (Capture f) = code_of_capture f
 
 -- of the arguments
 abbrev pub code_of_words : WordsFault → Code

@@ -2,27 +2,29 @@
 use Rattle.std.specs.Prelude.{◌≡◌, ◌⊎◌, ℕ, Bool, true, false, List, [], codes, Result, Ok, Err}
 use Rattle.std.specs.List.{Contains}
 use Rattle.std.specs.Borrow.{Bor}
-use Rattle.vme_engines.specs.declared.LineForm.{LineForm}
-use Rattle.vme_engines.specs.declared.LineForm.TheVariants.{Short, Full}
-use Rattle.vme_engines.specs.declared.Status.{Status}
-use Rattle.vme_engines.specs.declared.Status.TheVariants as ends
-use Rattle.vme_engines.specs.declared.EngineFault.{EngineFault}
-use Rattle.vme_engines.specs.declared.EngineFault.TheVariants as fault
-use Rattle.vme_engines.specs.declared.pairs.PairFault.{PairFault}
-use Rattle.vme_engines.specs.declared.pairs.PairFault.TheVariants as pair
+use Rattle.vme_reading.specs.declared.LineForm.{LineForm}
+use Rattle.vme_reading.specs.declared.LineForm.TheVariants.{Short, Full}
+use Rattle.vme_reading.specs.declared.Status.{Status}
+use Rattle.vme_reading.specs.declared.Status.TheVariants as ends
+use Rattle.vme_reading.specs.declared.EngineFault.{EngineFault}
+use Rattle.vme_reading.specs.declared.EngineFault.TheVariants as fault
+use Rattle.vme_reading.specs.declared.pairs.PairFault.{PairFault}
+use Rattle.vme_reading.specs.declared.pairs.PairFault.TheVariants as pair
 use Rattle.vme_run.specs.declared.RunFault.{RunFault}
 use Rattle.vme_run.specs.declared.RunFault.TheVariants as run
 use Rattle.vme_order.specs.declared.Form.{Form}
 use Rattle.vme_order.specs.declared.Form.TheVariants.{Trace, Places}
 use Rattle.vme_order.specs.declared.OrderingFault.{OrderingFault}
 use Rattle.vme_order.specs.declared.OrderingFault.TheVariants as order
+use Rattle.vme_probe.specs.declared.ProbeFault.{ProbeFault}
+use Rattle.vme_probe.specs.declared.ProbeFault.TheVariants as probe
 use Rattle.vme_races.specs.declared.other.OtherOrder.{OtherOrder as Other}
 use Rattle.vme_races.specs.declared.other.OtherOrder.TheVariants as other
 use Rattle.vme_command_line.specs.Asked.{texts_of}
 use Rattle.vme_command_line.specs.declared.Job.{Job}
-use Rattle.vme_command_line.specs.declared.Job.TheVariants.{Joined, OwnVersion, Replay, Check, Checks, Cycles, Explain, Shrink, Rules, State, Show, Summary, Sums, Races, Walk, OtherOrder, Same, Order, Drive, Draw, Search, Run}
+use Rattle.vme_command_line.specs.declared.Job.TheVariants.{Joined, OwnVersion, Replay, Check, Checks, Cycles, Explain, Shrink, Rules, State, Show, Summary, Sums, Races, Walk, OtherOrder, Same, Order, Probe, Drive, Draw, Search, Run}
 use Rattle.vme_program.specs.declared.faults.ProgramFault.{ProgramFault}
-use Rattle.vme_program.specs.declared.faults.ProgramFault.TheVariants.{CannotRead, TooLong, Engine, InTrace, SomeTraces, NoRace, NeverComes, Boards, Ordering}
+use Rattle.vme_program.specs.declared.faults.ProgramFault.TheVariants.{CannotRead, TooLong, Engine, InTrace, SomeTraces, NoRace, NeverComes, Boards, Ordering, Capture}
 
 -- the name of the scenario of a job: standard input is `-`, and the version has none
 abbrev pub scenario_name : Job → List ℕ
@@ -44,6 +46,7 @@ scenario_name (Walk scenario trace edge) = scenario.now
 scenario_name (OtherOrder scenario trace edge) = scenario.now
 scenario_name (Same scenario trace other) = scenario.now
 scenario_name (Order scenario moments slacks places progress) = scenario.now
+scenario_name (Probe scenario capture) = scenario.now
 scenario_name (Drive scenario edges version) = scenario.now
 scenario_name (Draw scenario edges seed until version) = scenario.now
 scenario_name (Search scenario edges first last goal version progress) = scenario.now
@@ -74,6 +77,7 @@ IsFileOf (Same scenario trace other) name =
     (name ≡ scenario.now) ⊎ (name ≡ trace.now) ⊎ (name ≡ other.now)
 IsFileOf (Order scenario moments slacks places progress) name =
     (name ≡ scenario.now) ⊎ (name ≡ moments.now)
+IsFileOf (Probe scenario capture) name = (name ≡ scenario.now) ⊎ (name ≡ capture.now)
 IsFileOf (Drive scenario edges version) name = name ≡ scenario.now
 IsFileOf (Draw scenario edges seed until version) name = name ≡ scenario.now
 IsFileOf (Search scenario edges first last goal version progress) name = name ≡ scenario.now
@@ -128,6 +132,12 @@ order_answer_named name (Err (order.Moments f)) = Err (Ordering (order.Moments f
 order_answer_named name (Err (order.NoBoard slot)) = Err (Ordering (order.NoBoard slot))
 order_answer_named name (Err order.TooManyOrders) = Err (Ordering order.TooManyOrders)
 
+abbrev pub probe_answer_named :
+    Bor (List ℕ) → Result Status ProbeFault → Result Status ProgramFault
+probe_answer_named name (Ok status) = Ok status
+probe_answer_named name (Err (probe.Engine f)) = Err (fault_named name f)
+probe_answer_named name (Err (probe.Capture f)) = Err (Capture f)
+
 -- the answer about the other order of the race of this edge
 abbrev pub other_answer_named :
     Bor (List ℕ) → ℕ → Result Other EngineFault → Result Status ProgramFault
@@ -161,3 +171,4 @@ IsFaultOf job (NoRace edge) = Unit {0}
 IsFaultOf job (NeverComes why) = Unit {0}
 IsFaultOf job (Boards fault) = Unit {0}
 IsFaultOf job (Ordering fault) = Unit {0}
+IsFaultOf job (Capture fault) = Unit {0}

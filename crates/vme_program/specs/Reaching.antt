@@ -7,9 +7,9 @@ use Rattle.vme_scenario.specs.Format.{scenario as read}
 use Rattle.vme_goals.specs.declared.goals.Goal.{Goal}
 use Rattle.vme_reach.specs.declared.hindrances.Hindrance.{Hindrance}
 use Rattle.vme_reach.specs.Needs.{hindrance_of}
-use Rattle.vme_engines.specs.declared.EngineFault.{EngineFault}
-use Rattle.vme_engines.specs.Outcomes.{Answer, scenario_limit}
-use Rattle.vme_engines.specs.Steps.{IsNoPlan}
+use Rattle.vme_reading.specs.declared.EngineFault.{EngineFault}
+use Rattle.vme_reading.specs.Outcomes.{Answer, scenario_limit}
+use Rattle.vme_reading.specs.Steps.{IsNoPlan}
 use Rattle.vme_program.specs.Names.{fault_named}
 use Rattle.vme_program.specs.declared.faults.ProgramFault.{ProgramFault}
 use Rattle.vme_program.specs.declared.faults.ProgramFault.TheVariants.{NeverComes}

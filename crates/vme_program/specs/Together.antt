@@ -9,14 +9,14 @@ use Rattle.vme_trace.specs.declared.Fault.TheVariants.{Write}
 use Rattle.vme_trace.specs.Writing.{AppendsFront}
 use Rattle.vme_summary.specs.Tally.{Answers, refused}
 use Rattle.vme_summary.specs.Sums.{Traces, sums_text, total}
-use Rattle.vme_engines.specs.declared.Status.{Status}
-use Rattle.vme_engines.specs.declared.Status.TheVariants.{SomeRefused}
-use Rattle.vme_engines.specs.declared.EngineFault.TheVariants as fault
-use Rattle.vme_engines.specs.Streams.{streams}
-use Rattle.vme_engines.specs.Outcomes.{Answer, scenario_limit, status_with}
+use Rattle.vme_reading.specs.declared.Status.{Status}
+use Rattle.vme_reading.specs.declared.Status.TheVariants.{SomeRefused}
+use Rattle.vme_reading.specs.declared.EngineFault.TheVariants as fault
+use Rattle.vme_reading.specs.Streams.{streams}
+use Rattle.vme_reading.specs.Outcomes.{Answer, scenario_limit, status_with}
 use Rattle.vme_engines.specs.Summing.{IsWaiting}
 use Rattle.vme_engines.specs.Totals.{IsWhole}
-use Rattle.vme_engines.specs.Waiting.{StopsWaiting}
+use Rattle.vme_reading.specs.Waiting.{StopsWaiting}
 use Rattle.vme_escapes.specs.Shown.{escaped}
 use Rattle.vme_program.specs.declared.faults.ProgramFault.{ProgramFault}
 use Rattle.vme_program.specs.declared.faults.ProgramFault.TheVariants.{CannotRead, Engine, InTrace}

@@ -11,7 +11,8 @@ use crate::faults::{ProgramFault, print_fault};
 use crate::files::open;
 use crate::jobs::answer_of_trace;
 use std::io::Write;
-use vme_engines::{Finding, Status, finding_of, write_finding};
+use vme_engines::{Finding, finding_of, write_finding};
+use vme_reading::Status;
 use vme_trace::{Fault, put};
 
 /// What the checks so far came to.

@@ -4,10 +4,11 @@ ghost use Rattle.vme_program.specs.FaultCodes as said;
 
 use crate::arguments::WordsFault;
 use crate::faults::ProgramFault;
-use vme_engines::EngineFault;
+use vme_captures::CaptureFault;
 use vme_model::PlanError;
 use vme_moments::MomentsFault;
 use vme_order::OrderingFault;
+use vme_reading::EngineFault;
 use vme_rulebook::Code;
 use vme_run::RunFault;
 use vme_scenario::ScenarioError;
@@ -98,6 +99,21 @@ fn code_of_order(fault: &OrderingFault) -> Option<Code>
     }
 }
 
+/// The code of a fault of a capture.
+fn code_of_capture(fault: CaptureFault) -> Option<Code>
+    ensures { result ≡ said.code_of_capture fault }
+{
+    match fault {
+        CaptureFault::Trace(fault) => code_of_trace(fault),
+        CaptureFault::Earlier { .. } => Some(Code::X10),
+        CaptureFault::NoPin { .. } => Some(Code::X12),
+        CaptureFault::SameWire { .. } => Some(Code::X13),
+        CaptureFault::NotProbed { .. } => Some(Code::X14),
+        CaptureFault::NoChange { .. } => Some(Code::X15),
+        CaptureFault::NoLine { .. } => Some(Code::X16),
+    }
+}
+
 /// The code of a fault of `run`.
 fn code_of_run(fault: &RunFault) -> Option<Code>
     ensures { result ≡ said.code_of_run fault.now }
@@ -123,6 +139,7 @@ impl ProgramFault<'_> {
             ProgramFault::NoRace(_) => Some(Code::X11),
             ProgramFault::Boards(fault) => code_of_run(fault),
             ProgramFault::Ordering(fault) => code_of_order(fault),
+            ProgramFault::Capture(fault) => code_of_capture(*fault),
             ProgramFault::SomeTraces | ProgramFault::NeverComes(_) => None,
         }
     }

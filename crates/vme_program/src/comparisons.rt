@@ -8,7 +8,7 @@ ghost use Rattle.vme_program.specs.Comparisons.{beginning_of, comparison_lines, 
 use crate::escapes::write_escaped;
 use crate::faults::ProgramFault;
 use std::io::Write;
-use vme_engines::{EngineFault, Status};
+use vme_reading::{EngineFault, Status};
 use vme_same::{Comparison, write_found};
 use vme_trace::{Fault, put};
 

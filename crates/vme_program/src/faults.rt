@@ -8,10 +8,11 @@ use std::fmt;
 use std::io::{self, ErrorKind};
 use std::process::ExitCode;
 use thiserror::Error;
-use vme_engines::{EngineFault, PairFault};
+use vme_captures::CaptureFault;
 use vme_escapes::OneLine;
 use vme_order::OrderingFault;
 use vme_reach::Hindrance;
+use vme_reading::{EngineFault, PairFault};
 use vme_run::RunFault;
 use vme_trace::Fault;
 
@@ -51,6 +52,9 @@ pub enum ProgramFault<'a> {
     /// A fault of the moments of `order`, of their orders, or of the slacks.
     #[error("{0}")]
     Ordering(OrderingFault),
+    /// A fault of the capture of `probe`.
+    #[error("{0}")]
+    Capture(CaptureFault),
 }
 
 impl<'a> ProgramFault<'a> {

@@ -1,14 +1,14 @@
 //! The files that a job reads, and its output.
 ghost use Rattle.std.specs.Prelude.{◌≡◌, ◌<◌, ◌≤◌, Err, IfOk, IfErr, IfSome, [], length};
 ghost use Rattle.std.specs.Io.Buffered.{reader_inner, reader_buffer, reader_capacity, writer_buffer, writer_capacity};
-ghost use Rattle.vme_engines.specs.Outcomes.{scenario_limit};
+ghost use Rattle.vme_reading.specs.Outcomes.{scenario_limit};
 ghost use Rattle.vme_program.specs.Names.{IsFileFault, IsScenarioFault};
 
 use crate::faults::ProgramFault;
 use std::alloc::Global;
 use std::fs::File;
 use std::io::{BufReader, BufWriter, Read, Stdout};
-use vme_engines::{EngineFault, SCENARIO_LIMIT};
+use vme_reading::{EngineFault, SCENARIO_LIMIT};
 use vme_trace::Patient;
 
 /// The size of the buffer for an input that is read in small pieces, in bytes.

@@ -9,9 +9,9 @@ ghost use Rattle.vme_command_line.specs.Limits.{IsWindow, IsWithin, most_turns};
 ghost use Rattle.vme_trace.specs.Writing.{AppendsFront};
 ghost use Rattle.vme_program.specs.Done.{IsDone, rules_text};
 ghost use Rattle.vme_engines.specs.Found.{found_answer};
-ghost use Rattle.vme_engines.specs.Outcomes.{scenario_limit};
-ghost use Rattle.vme_engines.specs.Steps.{IsNoPlan};
-ghost use Rattle.vme_engines.specs.declared.EngineFault.{EngineFault as EngineFaultValue};
+ghost use Rattle.vme_reading.specs.Outcomes.{scenario_limit};
+ghost use Rattle.vme_reading.specs.Steps.{IsNoPlan};
+ghost use Rattle.vme_reading.specs.declared.EngineFault.{EngineFault as EngineFaultValue};
 ghost use Rattle.vme_program.specs.Names.{IsFaultOf, form_of, line_form, answer_named, fault_named, order_answer_named, other_answer_named, run_answer_named, trace_answer_named};
 ghost use Rattle.vme_program.specs.Statuses.{exit_code};
 
@@ -20,6 +20,7 @@ use crate::comparisons::report_comparison;
 use crate::faults::ProgramFault;
 use crate::files::{buffered, open, read_scenario};
 use crate::goals::test_goal;
+use crate::probes::run_probe;
 use crate::reporters::Reporter;
 use crate::sums::sum_files;
 use std::io::Write;
@@ -29,14 +30,14 @@ use std::thread::Threads;
 use vme_command_line::{Job, VERSION};
 use vme_cycles::cycles;
 use vme_engines::{
-    EngineFault, LineForm, Status, check, drive, drive_drawn, drive_found, explain, joined,
-    plan_of, replay, show, state, summary,
+    check, drive, drive_drawn, drive_found, explain, joined, replay, show, state, summary,
 };
 use vme_goals::Goal;
 use vme_model::Version;
 use vme_moments::Slacks;
 use vme_order::{Form, OrderingFault, order};
 use vme_races::{OtherOrder, other_order, races, walk_of_edge};
+use vme_reading::{EngineFault, LineForm, Status, plan_of};
 use vme_rulebook::{Entry, all_rules};
 use vme_run::{RunFault, run as run_scenario};
 use vme_same::compare;
@@ -728,6 +729,7 @@ pub fn run<'a, R: Threads + Wait + Sync, W: Write>(
             places,
             progress,
         } => run_order(rt, scenario, moments, &slacks, places, progress, out),
+        Job::Probe { scenario, capture } => run_probe(rt, scenario, capture, out),
         Job::Drive {
             scenario,
             edges,

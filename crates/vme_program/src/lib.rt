@@ -15,6 +15,7 @@ mod faults;
 mod files;
 mod goals;
 mod jobs;
+mod probes;
 mod reporters;
 mod sums;
 

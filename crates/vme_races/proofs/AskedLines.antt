@@ -16,23 +16,23 @@ use Rattle.vme_model.specs.Verdict.{Judgement, kept, verdict}
 use Rattle.vme_trace.specs.declared.Fault.{Fault}
 use Rattle.vme_trace.specs.declared.Fault.TheVariants.{Memory, Write}
 use Rattle.vme_trace.specs.Writing.{AppendsFront}
-use Rattle.vme_engines.specs.declared.EngineFault.{EngineFault}
-use Rattle.vme_engines.specs.declared.EngineFault.TheVariants as fault
-use Rattle.vme_engines.specs.declared.Status.{Status}
-use Rattle.vme_engines.specs.declared.Status.TheVariants.{Done, SomeRefused}
-use Rattle.vme_engines.specs.Begun.{IsUnread}
+use Rattle.vme_reading.specs.declared.EngineFault.{EngineFault}
+use Rattle.vme_reading.specs.declared.EngineFault.TheVariants as fault
+use Rattle.vme_reading.specs.declared.Status.{Status}
+use Rattle.vme_reading.specs.declared.Status.TheVariants.{Done, SomeRefused}
+use Rattle.vme_reading.specs.Begun.{IsUnread}
 use Rattle.vme_engines.specs.Explaining.{IsUnasked}
-use Rattle.vme_engines.specs.Outcomes.{Answer, LentAsking, bench}
-use Rattle.vme_engines.specs.Pieces.{Came}
-use Rattle.vme_engines.specs.Readings.{LeavesNow, ReadsLent}
-use Rattle.vme_engines.specs.Steps.{Begins}
-use Rattle.vme_engines.specs.Streams.{Streams, streams, WroteNothing}
-use Rattle.vme_engines.specs.Waiting.{StopsWaiting}
+use Rattle.vme_reading.specs.Outcomes.{Answer, LentAsking, bench}
+use Rattle.vme_reading.specs.Pieces.{Came}
+use Rattle.vme_reading.specs.Readings.{LeavesNow, ReadsLent}
+use Rattle.vme_reading.specs.Steps.{Begins}
+use Rattle.vme_reading.specs.Streams.{Streams, streams, WroteNothing}
+use Rattle.vme_reading.specs.Waiting.{StopsWaiting}
 use Rattle.vme_engines.proofs.FollowedEdges.{next_list}
 use Rattle.vme_engines.proofs.Printed.{explains_end, slice_at}
-use Rattle.vme_engines.proofs.ReadOn.{came_begins}
-use Rattle.vme_engines.proofs.Waits.{stops_unread, waits_now}
-use Rattle.vme_engines.proofs.WrittenLines.{appends_behind, front_after}
+use Rattle.vme_reading.proofs.ReadOn.{came_begins}
+use Rattle.vme_reading.proofs.Waits.{stops_unread, waits_now}
+use Rattle.vme_reading.proofs.WrittenLines.{appends_behind, front_after}
 use Rattle.vme_races.specs.declared.asked.Printed.{Printed}
 use Rattle.vme_races.specs.declared.asked.Printed.TheVariants.{Beyond, Line}
 use Rattle.vme_races.specs.declared.racing.Racing.{Racing}

@@ -23,7 +23,7 @@ use Rattle.vme_histories.proofs.Judged as judging
 use Rattle.vme_trace.specs.Texts.{whole}
 use Rattle.vme_trace.proofs.ReadBack.{text_read}
 use Rattle.vme_engines.specs.Checking.{IsLegalTrace, first_refusal}
-use Rattle.vme_engines.specs.Outcomes.{bench}
+use Rattle.vme_reading.specs.Outcomes.{bench}
 use Rattle.vme_engines.proofs.CheckPieces.{all_kept}
 use Rattle.vme_engines.proofs.FollowedEdges.{edges_on}
 use Rattle.vme_engines.proofs.LegalTrace.{all_well_formed, legal_trace}

@@ -7,7 +7,7 @@ use Rattle.vme_model.specs.declared.signals.Version.{Version}
 use Rattle.vme_model.specs.Text.{edge_lines, header, text}
 use Rattle.vme_trace.specs.Writing.{AppendsFront, edge_line}
 use Rattle.vme_trace.proofs.WrittenLines.{first_front, second_front}
-use Rattle.vme_engines.proofs.WrittenLines.{front_kept, line_alone, lines_behind}
+use Rattle.vme_reading.proofs.WrittenLines.{front_kept, line_alone, lines_behind}
 
 pub on_ok : {A E : Type 0} (r : Result A E) (P : Type 0) → P → OnOk r P
 on_ok (Ok a) P h = h

@@ -12,19 +12,19 @@ use Rattle.vme_model.specs.Verdict.{kept}
 use Rattle.vme_trace.specs.declared.Fault.{Fault}
 use Rattle.vme_trace.specs.declared.Fault.TheVariants.{Write}
 use Rattle.vme_trace.specs.Writing.{AppendsFront}
-use Rattle.vme_engines.specs.declared.Status.{Status}
-use Rattle.vme_engines.specs.declared.EngineFault.TheVariants as fault
-use Rattle.vme_engines.specs.Streams.{Streams, Wrote, WroteNothing, streams}
-use Rattle.vme_engines.specs.Outcomes.{bench, refused_count, status_of, status_with}
-use Rattle.vme_engines.specs.Begun.{IsUnread}
-use Rattle.vme_engines.specs.Pieces.{Came}
-use Rattle.vme_engines.specs.Readings.{LeavesNow}
-use Rattle.vme_engines.specs.Steps.{traced}
-use Rattle.vme_engines.specs.Waiting.{StopsWaiting}
+use Rattle.vme_reading.specs.declared.Status.{Status}
+use Rattle.vme_reading.specs.declared.EngineFault.TheVariants as fault
+use Rattle.vme_reading.specs.Streams.{Streams, Wrote, WroteNothing, streams}
+use Rattle.vme_reading.specs.Outcomes.{bench, refused_count, status_of, status_with}
+use Rattle.vme_reading.specs.Begun.{IsUnread}
+use Rattle.vme_reading.specs.Pieces.{Came}
+use Rattle.vme_reading.specs.Readings.{LeavesNow}
+use Rattle.vme_reading.specs.Steps.{traced}
+use Rattle.vme_reading.specs.Waiting.{StopsWaiting}
 use Rattle.vme_engines.proofs.FollowedEdges.{edges_on}
-use Rattle.vme_engines.proofs.ReadOn.{came_begins}
-use Rattle.vme_engines.proofs.Waits.{stops_unread, waits_now}
-use Rattle.vme_engines.proofs.WrittenLines.{appends_behind, front_behind, front_kept, front_of_all}
+use Rattle.vme_reading.proofs.ReadOn.{came_begins}
+use Rattle.vme_reading.proofs.Waits.{stops_unread, waits_now}
+use Rattle.vme_reading.proofs.WrittenLines.{appends_behind, front_behind, front_kept, front_of_all}
 use Rattle.vme_races.specs.declared.racing.Racing.{Racing}
 use Rattle.vme_races.specs.declared.walks.Walk.{Walk}
 use Rattle.vme_races.specs.Lines.{counts_text, last_line, race_lines, races_in, waits_in}

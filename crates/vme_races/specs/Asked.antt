@@ -8,13 +8,13 @@ use Rattle.vme_model.specs.Numbered.{IsNth, numbered}
 use Rattle.vme_model.specs.Text.{Reading, read_of}
 use Rattle.vme_model.specs.Verdict.{kept, verdict}
 use Rattle.vme_trace.specs.declared.Fault.TheVariants.{Memory, Write}
-use Rattle.vme_engines.specs.declared.Status.{Status}
-use Rattle.vme_engines.specs.declared.Status.TheVariants.{Done, SomeRefused}
-use Rattle.vme_engines.specs.declared.EngineFault.TheVariants as fault
-use Rattle.vme_engines.specs.Streams.{Streams, IsInput, Wrote, WroteFront, WroteNothing}
-use Rattle.vme_engines.specs.Outcomes.{Answer, bench}
+use Rattle.vme_reading.specs.declared.Status.{Status}
+use Rattle.vme_reading.specs.declared.Status.TheVariants.{Done, SomeRefused}
+use Rattle.vme_reading.specs.declared.EngineFault.TheVariants as fault
+use Rattle.vme_reading.specs.Streams.{Streams, IsInput, Wrote, WroteFront, WroteNothing}
+use Rattle.vme_reading.specs.Outcomes.{Answer, bench}
 use Rattle.vme_engines.specs.Explaining.{Explains, IsUnasked}
-use Rattle.vme_engines.specs.Waiting.{StopsWaiting}
+use Rattle.vme_reading.specs.Waiting.{StopsWaiting}
 use Rattle.vme_races.specs.declared.walks.Walk.{Walk}
 use Rattle.vme_races.specs.Walks.{IsWalk}
 use Rattle.vme_races.specs.Lines.{refused_line, walk_line}

@@ -10,12 +10,12 @@ use Rattle.vme_model.specs.Verdict.{Judgement, kept, verdict}
 use Rattle.vme_trace.specs.declared.Fault.{Fault}
 use Rattle.vme_trace.specs.declared.Fault.TheVariants.{Memory, Write}
 use Rattle.vme_trace.specs.Texts.{whole}
-use Rattle.vme_engines.specs.declared.EngineFault.TheVariants as fault
+use Rattle.vme_reading.specs.declared.EngineFault.TheVariants as fault
 use Rattle.vme_engines.specs.Checking.{IsLegalTrace}
-use Rattle.vme_engines.specs.Streams.{Streams, Wrote, WroteFront, WroteNothing}
-use Rattle.vme_engines.specs.Outcomes.{bench}
+use Rattle.vme_reading.specs.Streams.{Streams, Wrote, WroteFront, WroteNothing}
+use Rattle.vme_reading.specs.Outcomes.{bench}
 use Rattle.vme_engines.specs.Explaining.{Explains, IsUnasked}
-use Rattle.vme_engines.specs.Waiting.{StopsWaiting}
+use Rattle.vme_reading.specs.Waiting.{StopsWaiting}
 use Rattle.vme_races.specs.declared.other.OtherOrder.{OtherOrder}
 use Rattle.vme_races.specs.declared.other.OtherOrder.TheVariants.{Beyond, NoRace, Written}
 use Rattle.vme_races.specs.declared.walks.Stop.TheVariants.{Races}

@@ -6,10 +6,10 @@ use Rattle.vme_model.specs.Plan.{Plan}
 use Rattle.vme_model.specs.Numbered.{numbered}
 use Rattle.vme_model.specs.Text.{Reading, read_of}
 use Rattle.vme_trace.specs.declared.Fault.TheVariants.{Write}
-use Rattle.vme_engines.specs.declared.EngineFault.TheVariants as fault
-use Rattle.vme_engines.specs.Streams.{Streams, IsInput, IsReadOut, Wrote, WroteFront}
-use Rattle.vme_engines.specs.Outcomes.{Answer, bench, status_of}
-use Rattle.vme_engines.specs.Waiting.{StopsWaiting}
+use Rattle.vme_reading.specs.declared.EngineFault.TheVariants as fault
+use Rattle.vme_reading.specs.Streams.{Streams, IsInput, IsReadOut, Wrote, WroteFront}
+use Rattle.vme_reading.specs.Outcomes.{Answer, bench, status_of}
+use Rattle.vme_reading.specs.Waiting.{StopsWaiting}
 use Rattle.vme_races.specs.declared.walks.Walk.{Walk}
 use Rattle.vme_races.specs.Walks.{AreWalks}
 use Rattle.vme_races.specs.Lines.{last_line, race_lines}

@@ -6,11 +6,11 @@ use Rattle.vme_model.specs.declared.signals.Edge.{Edge}
 use Rattle.vme_model.specs.Plan.{Plan}
 use Rattle.vme_trace.specs.declared.Fault.{Fault}
 use Rattle.vme_trace.specs.Writing.{AppendsFront}
-use Rattle.vme_engines.specs.declared.EngineFault.{EngineFault}
-use Rattle.vme_engines.specs.declared.EngineFault.TheVariants as fault
-use Rattle.vme_engines.specs.declared.Status.{Status}
+use Rattle.vme_reading.specs.declared.EngineFault.{EngineFault}
+use Rattle.vme_reading.specs.declared.EngineFault.TheVariants as fault
+use Rattle.vme_reading.specs.declared.Status.{Status}
 use Rattle.vme_engines.specs.Explaining.{IsUnasked}
-use Rattle.vme_engines.specs.Outcomes.{Answer}
+use Rattle.vme_reading.specs.Outcomes.{Answer}
 use Rattle.vme_races.specs.declared.asked.Printed.{Printed}
 use Rattle.vme_races.specs.declared.asked.Printed.TheVariants.{Beyond, Line}
 use Rattle.vme_races.specs.declared.racing.Racing.{Racing}

@@ -3,9 +3,9 @@ ghost use Rattle.std.specs.Prelude.{◌≡◌, IfErr, IfOk, List, OnErr, Option,
 ghost use Rattle.vme_model.specs.declared.signals.Edge.{Edge as EdgeValue};
 ghost use Rattle.vme_model.specs.declared.signals.Version.{Version as VersionValue};
 ghost use Rattle.vme_model.specs.Plan.{Plan as PlanValue};
-ghost use Rattle.vme_engines.specs.Streams.{ReadNothing, WroteNothing, streams};
-ghost use Rattle.vme_engines.specs.Outcomes.{LentAsking, refused_count, status_with};
-ghost use Rattle.vme_engines.specs.Steps.{traced};
+ghost use Rattle.vme_reading.specs.Streams.{ReadNothing, WroteNothing, streams};
+ghost use Rattle.vme_reading.specs.Outcomes.{LentAsking, refused_count, status_with};
+ghost use Rattle.vme_reading.specs.Steps.{traced};
 ghost use Rattle.vme_races.specs.Kept.{EndsCut, Ends, Stands};
 ghost use Rattle.vme_races.specs.Outcomes.{Reports, ReportsInput};
 
@@ -14,8 +14,8 @@ use crate::racing::Racing;
 use std::alloc::Global;
 use std::io::{Read, Write};
 use vme_bus::Bus;
-use vme_engines::{EngineFault, Judge, Status, read};
 use vme_model::Edge;
+use vme_reading::{EngineFault, Judge, Status, read};
 use vme_trace::{Fault, flush, put};
 
 /// The status of a trace with so many refused edges.

@@ -9,8 +9,8 @@ ghost use Rattle.vme_model.specs.Signals.{is_well_formed};
 ghost use Rattle.vme_model.specs.Text.{text};
 ghost use Rattle.vme_trace.specs.Writing.{AppendsFront};
 ghost use Rattle.vme_engines.specs.Explaining.{IsUnasked};
-ghost use Rattle.vme_engines.specs.Readings.{ReadsInput, ReadsLent};
-ghost use Rattle.vme_engines.specs.Streams.{ReadNothing, WroteNothing, streams};
+ghost use Rattle.vme_reading.specs.Readings.{ReadsInput, ReadsLent};
+ghost use Rattle.vme_reading.specs.Streams.{ReadNothing, WroteNothing, streams};
 ghost use Rattle.vme_races.specs.Listed.{AreListed, SeeksListed, WritesOrder, before_met};
 ghost use Rattle.vme_races.specs.Other.{Orders};
 
@@ -20,8 +20,8 @@ use crate::writing::write_trace;
 use std::alloc::Global;
 use std::io::{Read, Write};
 use vme_bus::Bus;
-use vme_engines::{EngineFault, Judge, read};
 use vme_model::Edge;
+use vme_reading::{EngineFault, Judge, read};
 use vme_store::Code;
 use vme_trace::Fault;
 

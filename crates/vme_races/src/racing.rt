@@ -8,7 +8,7 @@ ghost use Rattle.vme_model.specs.Plan.{Plan as PlanValue};
 ghost use Rattle.vme_model.specs.Signals.{is_well_formed};
 ghost use Rattle.vme_trace.specs.Writing.{AppendsFront};
 ghost use Rattle.vme_races.specs.Formed.{is_formed};
-ghost use Rattle.vme_engines.specs.Outcomes.{bench};
+ghost use Rattle.vme_reading.specs.Outcomes.{bench};
 ghost use Rattle.vme_races.specs.declared.walks.Walk.{Walk as WalkValue};
 ghost use Rattle.vme_model.specs.Numbered.{numbered};
 ghost use Rattle.vme_model.specs.Verdict.{kept, made, verdict};

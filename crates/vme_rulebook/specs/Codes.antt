@@ -2,13 +2,14 @@
 use Rattle.std.specs.Prelude.{ℕ, Option, List, [], ◌∷◌, ◌++◌, codes, find}
 use Rattle.std.specs.Str.{bytes_eq}
 use Rattle.vme_rulebook.specs.declared.codes.Code.{Code}
-use Rattle.vme_rulebook.specs.declared.codes.Code.TheVariants.{E3, E4, F1, F2, F3, F4, F5, F6, L3, L4, L6, P1, P2, P3, P4, P5, P6, P7, P8, P9, Q1, Q2, Q3, Q4, Q6, X1, X2, X3, X4, X5, X6, X8, X9, X10, X11, X17}
+use Rattle.vme_rulebook.specs.declared.codes.Code.TheVariants.{E3, E4, F1, F2, F3, F4, F5, F6, L3, L4, L6, P1, P2, P3, P4, P5, P6, P7, P8, P9, Q1, Q2, Q3, Q4, Q6, X1, X2, X3, X4, X5, X6, X8, X9, X10, X11, X12, X13, X14, X15, X16, X17}
 
 -- all of them
 unfoldable pub all_codes : List Code
 all_codes =
     E3 ∷ E4 ∷ F1 ∷ F2 ∷ F3 ∷ F4 ∷ F5 ∷ F6 ∷ L3 ∷ L4 ∷ L6 ∷ P1 ∷ P2 ∷ P3 ∷ P4 ∷ P5 ∷ P6 ∷ P7 ∷ P8
-    ∷ P9 ∷ Q1 ∷ Q2 ∷ Q3 ∷ Q4 ∷ Q6 ∷ X1 ∷ X2 ∷ X3 ∷ X4 ∷ X5 ∷ X6 ∷ X8 ∷ X9 ∷ X10 ∷ X11 ∷ X17 ∷ []
+    ∷ P9 ∷ Q1 ∷ Q2 ∷ Q3 ∷ Q4 ∷ Q6 ∷ X1 ∷ X2 ∷ X3 ∷ X4 ∷ X5 ∷ X6 ∷ X8 ∷ X9 ∷ X10 ∷ X11 ∷ X12 ∷ X13
+    ∷ X14 ∷ X15 ∷ X16 ∷ X17 ∷ []
 
 abbrev pub code_name : Code → List ℕ
 code_name E3 = codes "E3"
@@ -46,6 +47,11 @@ code_name X8 = codes "X8"
 code_name X9 = codes "X9"
 code_name X10 = codes "X10"
 code_name X11 = codes "X11"
+code_name X12 = codes "X12"
+code_name X13 = codes "X13"
+code_name X14 = codes "X14"
+code_name X15 = codes "X15"
+code_name X16 = codes "X16"
 code_name X17 = codes "X17"
 
 -- a code with the text that follows it, what it means, what usually causes it, and what to do
@@ -238,6 +244,40 @@ code_text X11 =
     ++ codes "race with an edge before it. Usually N is the earlier edge of the race, the\n"
     ++ codes "number I of a line `N EDGE races I`: ask for the later one. `races --edge N`\n"
     ++ codes "prints what stops the edge.\n"
+code_text X12 =
+    codes "X12 line N is no pin of this backplane\n"
+    ++ codes "Line N is a `pin` line of a slot without a board, or of a chain that an empty\n"
+    ++ codes "slot below it does not join. Usually the number is mistyped, or the scenario\n"
+    ++ codes "lacks the analyser, which is a board with a `slot` and nothing else. Correct the\n"
+    ++ codes "line, or describe the board, and give each empty slot a jumper with all five\n"
+    ++ codes "chains.\n"
+code_text X13 =
+    codes "X13 line N is a wire that has a pin already\n"
+    ++ codes "Line N is a `pin` line, and an earlier one is of the same wire. Usually the\n"
+    ++ codes "output of a board and the input of the next one are both declared, such as\n"
+    ++ codes "`1 BG3OUT` and `2 BG3IN`, or a line is there twice. Declare one pin of each\n"
+    ++ codes "wire, and write all of its changes by that name.\n"
+code_text X14 =
+    codes "X14 line N names a pin that is not probed\n"
+    ++ codes "Line N is a `low` line or a change of a pin that has no `pin` line. Usually the\n"
+    ++ codes "`pin` line is missing, or it has the name of the other end of the wire, such as\n"
+    ++ codes "`1 BG3OUT` for `2 BG3IN`. Write a `pin` line for it above the first moment, and\n"
+    ++ codes "spell the pin alike everywhere.\n"
+code_text X15 =
+    codes "X15 line N changes nothing\n"
+    ++ codes "Line N is a fall of what is low already, a rise of what is high already, or a\n"
+    ++ codes "second `low` line of the same line or wire. Usually the analyser missed a pulse\n"
+    ++ codes "between two of its samples, the `low` line of what was low at the beginning is\n"
+    ++ codes "missing, or the file has levels and not changes. Sample more often, write that\n"
+    ++ codes "`low` line, or leave out what does not change.\n"
+code_text X16 =
+    codes "X16 line N is no line of a capture\n"
+    ++ codes "Line N is complete and spells no line of a capture, or it stands where it may\n"
+    ++ codes "not. Usually it is an edge with a driver, such as `2 br-`, it is empty or a\n"
+    ++ codes "comment, or it has an `AS-` that does not say what is shown; or a change has no\n"
+    ++ codes "moment above it, or `low` no `running`. Write the `pin` lines, `running` and the\n"
+    ++ codes "`low` lines first, and below them the changes, such as `BR3-`, each below its\n"
+    ++ codes "moment `@N`.\n"
 code_text X17 =
     codes "X17 line N stands before the first moment\n"
     ++ codes "Line N is an edge, and there is no moment above it. Usually the file is a trace,\n"

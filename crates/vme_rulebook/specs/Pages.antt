@@ -61,7 +61,7 @@ version_text r = if is_first_versions r then codes ", in version 1" else []
 
 -- why
 abbrev pub why_text : Source → List ℕ
-why_text (LeastTime n) = codes ": it stands for a minimum time"
+why_text (LeastTime n) = codes ": it takes the place of a minimum time"
 why_text (Profile why) = codes ": " ++ reason_text why
 why_text _ = []
 

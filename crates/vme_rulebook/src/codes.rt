@@ -44,12 +44,17 @@ pub enum Code {
     X9,
     X10,
     X11,
+    X12,
+    X13,
+    X14,
+    X15,
+    X16,
     X17,
 }
 
 impl Code {
     /// All codes that are no rules, in the order of their names.
-    pub const ALL: [Code; 36] = [
+    pub const ALL: [Code; 41] = [
         Code::E3,
         Code::E4,
         Code::F1,
@@ -85,6 +90,11 @@ impl Code {
         Code::X9,
         Code::X10,
         Code::X11,
+        Code::X12,
+        Code::X13,
+        Code::X14,
+        Code::X15,
+        Code::X16,
         Code::X17,
     ];
 
@@ -129,6 +139,11 @@ impl Code {
             Code::X9 => "X9",
             Code::X10 => "X10",
             Code::X11 => "X11",
+            Code::X12 => "X12",
+            Code::X13 => "X13",
+            Code::X14 => "X14",
+            Code::X15 => "X15",
+            Code::X16 => "X16",
             Code::X17 => "X17",
         }
     }
@@ -175,6 +190,11 @@ impl Code {
             Code::X9 => texts::X9,
             Code::X10 => texts::X10,
             Code::X11 => texts::X11,
+            Code::X12 => texts::X12,
+            Code::X13 => texts::X13,
+            Code::X14 => texts::X14,
+            Code::X15 => texts::X15,
+            Code::X16 => texts::X16,
             Code::X17 => texts::X17,
         }
     }

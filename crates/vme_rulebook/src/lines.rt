@@ -91,7 +91,7 @@ fn push_why(text: &mut Text, source: Source)
     ensures len { length text.new ≤ length text.old + 72 }
 {
     match source {
-        Source::LeastTime(_) => text.push(b": it stands for a minimum time"),
+        Source::LeastTime(_) => text.push(b": it takes the place of a minimum time"),
         Source::Profile(reason) => {
             text.push(b": ");
             text.push(reason.text().as_bytes());

@@ -224,6 +224,45 @@ number I of a line `N EDGE races I`: ask for the later one. `races --edge N`
 prints what stops the edge.
 ";
 
+pub(crate) const X12: &str = "X12 line N is no pin of this backplane
+Line N is a `pin` line of a slot without a board, or of a chain that an empty
+slot below it does not join. Usually the number is mistyped, or the scenario
+lacks the analyser, which is a board with a `slot` and nothing else. Correct the
+line, or describe the board, and give each empty slot a jumper with all five
+chains.
+";
+
+pub(crate) const X13: &str = "X13 line N is a wire that has a pin already
+Line N is a `pin` line, and an earlier one is of the same wire. Usually the
+output of a board and the input of the next one are both declared, such as
+`1 BG3OUT` and `2 BG3IN`, or a line is there twice. Declare one pin of each
+wire, and write all of its changes by that name.
+";
+
+pub(crate) const X14: &str = "X14 line N names a pin that is not probed
+Line N is a `low` line or a change of a pin that has no `pin` line. Usually the
+`pin` line is missing, or it has the name of the other end of the wire, such as
+`1 BG3OUT` for `2 BG3IN`. Write a `pin` line for it above the first moment, and
+spell the pin alike everywhere.
+";
+
+pub(crate) const X15: &str = "X15 line N changes nothing
+Line N is a fall of what is low already, a rise of what is high already, or a
+second `low` line of the same line or wire. Usually the analyser missed a pulse
+between two of its samples, the `low` line of what was low at the beginning is
+missing, or the file has levels and not changes. Sample more often, write that
+`low` line, or leave out what does not change.
+";
+
+pub(crate) const X16: &str = "X16 line N is no line of a capture
+Line N is complete and spells no line of a capture, or it stands where it may
+not. Usually it is an edge with a driver, such as `2 br-`, it is empty or a
+comment, or it has an `AS-` that does not say what is shown; or a change has no
+moment above it, or `low` no `running`. Write the `pin` lines, `running` and the
+`low` lines first, and below them the changes, such as `BR3-`, each below its
+moment `@N`.
+";
+
 pub(crate) const X17: &str = "X17 line N stands before the first moment
 Line N is an edge, and there is no moment above it. Usually the file is a trace,
 which has an order already: `check` and `replay` read it. In moments, write a

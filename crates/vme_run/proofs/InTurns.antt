@@ -16,7 +16,7 @@ use Rattle.vme_lock.specs.Seats.{Place, AllWorked, IsWithin, seat_of, seats_of}
 use Rattle.vme_lock.specs.Closing.{IsClosing, AreLogs}
 use Rattle.vme_lock.proofs.DeskCounts.{count-in_order}
 use Rattle.vme_lock.proofs.AllSeats.{all_counted}
-use Rattle.vme_engines.specs.declared.EngineFault.TheVariants as fault
+use Rattle.vme_reading.specs.declared.EngineFault.TheVariants as fault
 use Rattle.vme_run.specs.declared.RunFault.{RunFault}
 use Rattle.vme_run.specs.declared.RunFault.TheVariants.{LogDiffers}
 use Rattle.vme_run.specs.Running.{AreInTurns, AreHandedBack}

@@ -13,8 +13,8 @@ use Rattle.vme_model.specs.Safe.{IsSafe}
 use Rattle.vme_model.specs.Text.{text}
 use Rattle.vme_model.specs.Report.{at_power_up}
 use Rattle.vme_trace.specs.Writing.{AppendsFront}
-use Rattle.vme_engines.specs.declared.Status.{Status}
-use Rattle.vme_engines.specs.declared.EngineFault.TheVariants as fault
+use Rattle.vme_reading.specs.declared.Status.{Status}
+use Rattle.vme_reading.specs.declared.EngineFault.TheVariants as fault
 use Rattle.vme_run.specs.declared.RunFault.{RunFault}
 use Rattle.vme_run.specs.declared.RunFault.TheVariants.{Engine, NotStarted, LogDiffers}
 use Rattle.vme_run.specs.Running.{IsMade, IsRun, AreHandedBack, HasOtherLogs, Runs}

@@ -11,10 +11,10 @@ use Rattle.vme_model.specs.Text.{text}
 use Rattle.vme_scenario.specs.Format.{scenario}
 use Rattle.vme_trace.specs.declared.Fault.TheVariants.{Write}
 use Rattle.vme_trace.specs.Writing.{AppendsFront}
-use Rattle.vme_engines.specs.declared.Status.TheVariants.{Done, Limit}
-use Rattle.vme_engines.specs.declared.EngineFault.TheVariants as fault
-use Rattle.vme_engines.specs.Outcomes.{scenario_limit}
-use Rattle.vme_engines.specs.Steps.{IsNoPlan}
+use Rattle.vme_reading.specs.declared.Status.TheVariants.{Done, Limit}
+use Rattle.vme_reading.specs.declared.EngineFault.TheVariants as fault
+use Rattle.vme_reading.specs.Outcomes.{scenario_limit}
+use Rattle.vme_reading.specs.Steps.{IsNoPlan}
 use Rattle.vme_lock.specs.Seats.{Place, Follows}
 use Rattle.vme_lock.specs.Closing.{IsClosing, AreLogs, FirstDiffers}
 use Rattle.vme_run.specs.declared.RunFault.{RunFault}

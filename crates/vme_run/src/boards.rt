@@ -17,10 +17,10 @@ use std::sync::ledger::Blank;
 use std::thread::Threads;
 use vme_arena::{Region, Rest};
 use vme_backplane::{Backplane, Trace};
-use vme_engines::EngineFault;
 use vme_lock::{
     Bounds, Closed, Log, LogMismatch, OpenGate, Rig, Room, Seats, Shared, log_bytes, run_boards,
 };
+use vme_reading::EngineFault;
 use vme_slots::DRIVERS;
 
 /// Memory for `boards` boards, each of which makes at most `edges` edges.

@@ -12,8 +12,8 @@ mod runs;
 pub use runs::run;
 use std::fmt;
 use thiserror::Error;
-use vme_engines::EngineFault;
 use vme_model::Driver;
+use vme_reading::EngineFault;
 
 /// Why a run gave up, by the numbers that users see. docs/FAULTS.md lists them.
 #[derive(PartialEq, Eq, Debug, Drop, Error)]

@@ -13,9 +13,10 @@ use std::sync::Wait;
 use std::thread::Threads;
 use vme_arena::{Region, Rest};
 use vme_backplane::{Backplane, Trace, TraceError};
-use vme_engines::{EngineFault, Status, plan_of, status_of};
+use vme_engines::status_of;
 use vme_lock::Bounds;
 use vme_model::Version;
+use vme_reading::{EngineFault, Status, plan_of};
 use vme_slots::Plan;
 
 /// The plan of a scenario's text.

@@ -15,7 +15,7 @@ use Rattle.vme_histories.proofs.Judged.{refused}
 use Rattle.vme_swaps.specs.Swaps.{AreOneButForSwaps}
 use Rattle.vme_swaps.proofs.Behind.{AreSame, same_by_swaps}
 use Rattle.vme_engines.specs.Checking.{first_refusal}
-use Rattle.vme_engines.specs.Outcomes.{bench}
+use Rattle.vme_reading.specs.Outcomes.{bench}
 use Rattle.vme_engines.proofs.CheckPieces.{all_kept}
 use Rattle.vme_engines.proofs.FollowedEdges.{edges_on}
 use Rattle.vme_same.specs.declared.comparisons.Comparison.TheVariants.{Same}

@@ -3,8 +3,8 @@ use Rattle.std.proofs.Common.{List, Ok, true, ℕ}
 use Rattle.vme_model.specs.declared.signals.Edge.{Edge}
 use Rattle.vme_model.specs.declared.signals.Version.{Version}
 use Rattle.vme_model.specs.Plan.{Plan}
-use Rattle.vme_engines.specs.Pairs.{LentPair, ReadsPair}
-use Rattle.vme_engines.specs.Streams.{Streams}
+use Rattle.vme_reading.specs.Pairs.{LentPair, ReadsPair}
+use Rattle.vme_reading.specs.Streams.{Streams}
 use Rattle.vme_same.specs.declared.comparisons.Comparison.{Comparison}
 use Rattle.vme_same.specs.declared.matching.Matching.{Matching}
 use Rattle.vme_same.specs.Comparing.{IsComparison}

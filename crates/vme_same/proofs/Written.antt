@@ -5,7 +5,7 @@ use Rattle.std.specs.Io.KnownBytes.{Appends, Keeps}
 use Rattle.std.proofs.KnownBytes.{Appends-kept, Appends-trans}
 use Rattle.vme_trace.specs.declared.Fault.{Fault}
 use Rattle.vme_trace.specs.Writing.{AppendsFront}
-use Rattle.vme_engines.proofs.WrittenLines.{front_kept}
+use Rattle.vme_reading.proofs.WrittenLines.{front_kept}
 
 module _ (a b c d : Option (List ℕ)) (x y : List ℕ) (first : Appends a b x) (second : Appends b c y)
     (kept : Keeps c d) where

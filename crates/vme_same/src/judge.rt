@@ -2,8 +2,8 @@
 ghost use Rattle.std.specs.Prelude.{◌≡◌, IfErr, IfOk, IsTrue, None, OnErr, OnOk};
 ghost use Rattle.std.specs.Io.KnownBytes.{Appends};
 ghost use Rattle.vme_trace.specs.Writing.{AppendsFront};
-ghost use Rattle.vme_engines.specs.Pairs.{LentPair, ReadsPair};
-ghost use Rattle.vme_engines.specs.Streams.{ReadNothing, streams};
+ghost use Rattle.vme_reading.specs.Pairs.{LentPair, ReadsPair};
+ghost use Rattle.vme_reading.specs.Streams.{ReadNothing, streams};
 ghost use Rattle.vme_same.specs.Comparing.{IsComparison};
 ghost use Rattle.vme_same.specs.Formed.{is_formed_found};
 ghost use Rattle.vme_same.specs.Kept.{Stands, lacks_first};
@@ -14,8 +14,8 @@ use crate::lines::{first_line_of, second_line_of};
 use crate::matching::Matching;
 use std::alloc::Global;
 use std::io::{Read, Write};
-use vme_engines::{Pair, PairFault, read_pair};
 use vme_model::{Edge, Version};
+use vme_reading::{Pair, PairFault, read_pair};
 use vme_slots::Plan;
 use vme_trace::{Fault, flush, put};
 

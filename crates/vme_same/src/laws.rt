@@ -12,7 +12,7 @@ ghost use Rattle.vme_model.specs.Numbered.{numbered};
 ghost use Rattle.vme_model.specs.Plan.{Plan};
 ghost use Rattle.vme_swaps.specs.Alike.{StandAlike};
 ghost use Rattle.vme_swaps.specs.Swaps.{AreOneButForSwaps};
-ghost use Rattle.vme_engines.specs.Outcomes.{bench};
+ghost use Rattle.vme_reading.specs.Outcomes.{bench};
 ghost use Rattle.vme_same.specs.declared.comparisons.Comparison.TheVariants.{Differs, Same};
 ghost use Rattle.vme_same.specs.declared.comparisons.Why.{Why};
 ghost use Rattle.vme_same.specs.Comparing.{IsComparison};

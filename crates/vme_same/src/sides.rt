@@ -7,7 +7,7 @@ ghost use Rattle.vme_model.specs.Numbered.{numbered};
 ghost use Rattle.vme_model.specs.Report.{trace_limit};
 ghost use Rattle.vme_model.specs.Verdict.{kept, verdict, verdict_but_full};
 ghost use Rattle.vme_bus.specs.States.{OfHistory};
-ghost use Rattle.vme_engines.specs.Outcomes.{bench};
+ghost use Rattle.vme_reading.specs.Outcomes.{bench};
 ghost use Rattle.vme_same.specs.Kept.{IsSide};
 
 use vme_bus::BusState;

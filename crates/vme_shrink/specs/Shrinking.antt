@@ -11,12 +11,12 @@ use Rattle.vme_trace.specs.declared.Fault.{Fault}
 use Rattle.vme_trace.specs.declared.Fault.TheVariants.{Memory, Write}
 use Rattle.vme_trace.specs.Writing.{AppendsFront}
 use Rattle.vme_stories.specs.Stories.{IsFound, accepted}
-use Rattle.vme_engines.specs.declared.Status.{Status}
-use Rattle.vme_engines.specs.declared.EngineFault.TheVariants as fault
-use Rattle.vme_engines.specs.Streams.{Streams, IsInput, Wrote, WroteFront, WroteNothing}
-use Rattle.vme_engines.specs.Outcomes.{Answer, bench}
+use Rattle.vme_reading.specs.declared.Status.{Status}
+use Rattle.vme_reading.specs.declared.EngineFault.TheVariants as fault
+use Rattle.vme_reading.specs.Streams.{Streams, IsInput, Wrote, WroteFront, WroteNothing}
+use Rattle.vme_reading.specs.Outcomes.{Answer, bench}
 use Rattle.vme_engines.specs.Explaining.{Explains, IsAllLegal, IsAsked, IsUnasked, edge_status}
-use Rattle.vme_engines.specs.Waiting.{StopsWaiting}
+use Rattle.vme_reading.specs.Waiting.{StopsWaiting}
 
 -- The edge that is asked for is written behind a story of it and of what was kept of the edges
 -- before it.

@@ -12,8 +12,8 @@ ghost use Rattle.vme_shrink.specs.Sought.{IsFront, Seeks, is_asked};
 use crate::writing::write_trace;
 use std::alloc::Global;
 use std::io::Write;
-use vme_engines::Status;
 use vme_model::Edge;
+use vme_reading::Status;
 use vme_stories::{Front, StoryProgress, story};
 use vme_trace::Fault;
 

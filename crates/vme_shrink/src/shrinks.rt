@@ -3,8 +3,8 @@ ghost use Rattle.std.specs.Prelude.{◌≡◌, Some, length};
 ghost use Rattle.std.specs.Io.KnownBytes.{Keeps};
 ghost use Rattle.vme_model.specs.Verdict.{State};
 ghost use Rattle.vme_engines.specs.Explaining.{IsUnasked};
-ghost use Rattle.vme_engines.specs.Outcomes.{LentAsking};
-ghost use Rattle.vme_engines.specs.Streams.{streams, ReadNothing, WroteNothing};
+ghost use Rattle.vme_reading.specs.Outcomes.{LentAsking};
+ghost use Rattle.vme_reading.specs.Streams.{streams, ReadNothing, WroteNothing};
 ghost use Rattle.vme_shrink.specs.Shrinking.{Shrinks, ShrinksInput};
 ghost use Rattle.vme_shrink.specs.Sought.{IsFront, written_answer, written_status};
 
@@ -12,8 +12,9 @@ use crate::fronts::{seek, write_story};
 use std::alloc::Global;
 use std::io::{Read, Write};
 use vme_bus::Bus;
-use vme_engines::{EngineFault, Finding, Judge, Status, read, write_finding};
+use vme_engines::{Finding, write_finding};
 use vme_model::Edge;
+use vme_reading::{EngineFault, Judge, Status, read};
 use vme_stories::{Front, StoryProgress};
 use vme_trace::Fault;
 

@@ -77,3 +77,6 @@ both a b e f = ap (λ u. u && b) e ∙ f
 
 pub same_both : (a b x y : Bool) → a ≡ x → b ≡ y → (a && b) ≡ (x && y)
 same_both a b x y e f = ap (λ u. u && b) e ∙ ap (λ u. x && u) f
+
+pub same_either : (a b x y : Bool) → a ≡ x → b ≡ y → (a || b) ≡ (x || y)
+same_either a b x y e f = ap (λ u. u || b) e ∙ ap (λ u. x || u) f

@@ -19,6 +19,22 @@ pub mod RequestLaws
 -- the laws of edges that move no request, and of those by which a board passes an acknowledge on
 pub mod RequestPasses
 -- who drives AS* and DTACK*
-pub mod Drivers
+pub mod WhoDrives
 -- one slot more in the walk along the acknowledge chain: `Fronts::with_hidden`
 pub mod Walks
+-- which phases the sets of `with_unseen` have
+pub mod UnseenPhases
+-- one slot more in a walk along a grant chain
+pub mod Walked
+-- the phases of a level in which nobody holds the bus, that are put in one level after the other
+pub mod LevelRows
+-- the phases that show what the probes see
+pub mod SeenPhases
+-- how far the acknowledge has come, by an edge of its chain: `front_laws`
+pub mod FrontSteps
+-- what an edge moves, by what the probes see of it: `front_laws`
+pub mod SeenEdges
+-- the laws of how far the acknowledge has come
+pub mod FrontLaws
+-- the laws of how far the acknowledge has come, behind an edge that the probes see
+pub mod FrontSeen

@@ -1,5 +1,5 @@
 -- Where the low segments of the acknowledge chain may end, and what the calls of `Fronts` do.
-use Rattle.std.specs.Prelude.{◌≡◌, ◌==◌, ◌&&◌, ◌||◌, if◌then◌else◌, ℕ, Bool, true, false, Option, Some, None}
+use Rattle.std.specs.Prelude.{◌≡◌, ◌==◌, ◌&&◌, ◌||◌, ◌<◌, if◌then◌else◌, ℕ, Bool, true, false, Option, Some, None}
 use Rattle.vme_model.specs.declared.sets.ChainId.TheVariants.{Iack}
 use Rattle.vme_model.specs.Plan.{Plan, upstream}
 use Rattle.vme_bus.specs.declared.sets.SlotSet.{SlotSet}
@@ -49,3 +49,10 @@ may_fall_at f p place = if place == 0 then f.waiting else has f.ends (input_plac
 pub record FallsAt (p : Plan) (place : ℕ) (old new : Fronts) : Type 0 where
   pub able : may_fall_at old p place ≡ true
   pub ends : EndsAt place new
+
+-- the acknowledge is at one of these boards, which has not passed it on
+pub record Reaches (p : Plan) (boards : SlotSet) (new : Fronts) : Type 0 where
+  pub waiting : new.waiting ≡ false
+  pub all : EachSlot (λ s. has boards s ≡ true → has new.ends (input_place p s) ≡ true)
+  pub only : (t : ℕ) → has new.ends t ≡ true
+      → (s : ℕ) × (0 < s) × (s < 22) × (has boards s ≡ true) × (t ≡ input_place p s)

@@ -1,8 +1,9 @@
 //! How far the acknowledge may have come on its daisy chain while a cycle is shown.
-ghost use Rattle.std.specs.Prelude.{◌≡◌, ◌&&◌, ◌||◌, ◌<◌, ℕ, false, MatchOption};
+ghost use Rattle.std.specs.Prelude.{◌≡◌, ◌==◌, ◌&&◌, ◌||◌, ◌<◌, ℕ, false, MatchOption};
 ghost use Rattle.vme_bus.specs.Sets.{has};
-ghost use Rattle.vme_standings.specs.Fronts.{place_of, input_place, is_reached, IsWaiting, MovesFronts, may_fall_at, EndsAt, FallsAt};
+ghost use Rattle.vme_standings.specs.Fronts.{place_of, input_place, is_reached, IsWaiting, MovesFronts, may_fall_at, EndsAt, FallsAt, Reaches};
 
+use crate::grants::just;
 use crate::interrupters::Interrupters;
 use crate::sets::{SLOTS, both};
 use vme_bus::SlotSet;
@@ -19,14 +20,14 @@ pub struct Fronts {
 }
 
 /// The place of a segment: the slot that drives it, or 0 for the controller's.
-fn place_of(slot: Option<u8>) -> u8
+pub(crate) fn place_of(slot: Option<u8>) -> u8
     ensures { result ≡ place_of slot }
 {
     slot.unwrap_or(0)
 }
 
 /// The place of the segment at the slot's input.
-fn input_place(plan: &Plan, slot: u8) -> u8
+pub(crate) fn input_place(plan: &Plan, slot: u8) -> u8
     ensures { result ≡ input_place plan.now slot }
 {
     place_of(plan.upstream(ChainId::Iack, slot))
@@ -38,6 +39,14 @@ fn may_move(plan: &Plan, ends: SlotSet, movers: SlotSet, slot: u8) -> bool
     ensures { result ≡ (has movers slot && has ends (input_place plan.now slot)) }
 {
     movers.has(slot) && ends.has(input_place(plan, slot))
+}
+
+/// The segment at the slot's input, as a set of its place.
+fn input_of(plan: &Plan, slot: u8) -> SlotSet
+    requires { slot < 22 }
+    ensures { (s : ℕ) → has result s ≡ (s == input_place plan.now slot) }
+{
+    just(input_place(plan, slot))
 }
 
 impl Fronts {
@@ -66,7 +75,7 @@ impl Fronts {
     }
 
     /// Whether the acknowledge may have reached the slot's board, which has not passed it on.
-    fn may_have_reached(&self, plan: &Plan, slot: u8) -> bool
+    pub(crate) fn may_have_reached(&self, plan: &Plan, slot: u8) -> bool
         ensures { result ≡ has self.now.ends (input_place plan.now slot) }
     {
         self.ends.has(input_place(plan, slot))
@@ -133,7 +142,7 @@ impl Fronts {
     }
 
     /// Whether the segment at the place may fall.
-    fn may_fall_at(&self, plan: &Plan, place: u8) -> bool
+    pub(crate) fn may_fall_at(&self, plan: &Plan, place: u8) -> bool
         ensures { result ≡ may_fall_at self.now plan.now place }
     {
         if place == 0 {
@@ -143,8 +152,25 @@ impl Fronts {
         }
     }
 
+    /// The acknowledge is at one of these boards, which has not passed it on.
+    pub(crate) fn reaching(plan: &Plan, boards: SlotSet) -> Fronts
+        ensures { Reaches plan.now boards result }
+    {
+        let mut ends = SlotSet::NONE;
+        for slot in 1..SLOTS {
+            let is_reached = boards.has(slot);
+            if is_reached {
+                ends = ends.or(input_of(plan, slot));
+            }
+        }
+        Fronts {
+            waiting: false,
+            ends,
+        }
+    }
+
     /// The low segments end at the place.
-    fn ending_at(place: u8) -> Fronts
+    pub(crate) fn ending_at(place: u8) -> Fronts
         requires { place < 22 }
         ensures { EndsAt place result }
     {

@@ -20,7 +20,7 @@ use vme_model::{ArbiterKind, BusLevels, ChainId, Release, Version};
 use vme_slots::Plan;
 
 /// The set of one slot.
-fn just(slot: u8) -> SlotSet
+pub(crate) fn just(slot: u8) -> SlotSet
     requires { slot < 32 }
     ensures { (s : ℕ) → has result s ≡ (s == slot) }
 {
@@ -62,7 +62,7 @@ fn of_level(plan: &Plan, level: u8, slots: SlotSet) -> SlotSet
 }
 
 /// Whether the policy picks the level of these requests, with another level last granted.
-fn is_picked(plan: &Plan, requests: BusLevels, last: u8, level: u8) -> bool
+pub(crate) fn is_picked(plan: &Plan, requests: BusLevels, last: u8, level: u8) -> bool
     ensures { result ≡ is_picked plan.now requests last level }
 {
     match AnyPolicy::from(plan.arbiter()).pick(requests, last) {
@@ -101,7 +101,13 @@ pub fn behind_grant(
 
 /// Whether a board may pass a grant of the level on. The first version keeps the grant from getting
 /// past the last board of its chain.
-fn is_passed(plan: &Plan, version: Version, level: u8, slot: u8, phases: &GrantPhases) -> bool
+pub(crate) fn is_passed(
+    plan: &Plan,
+    version: Version,
+    level: u8,
+    slot: u8,
+    phases: &GrantPhases,
+) -> bool
     ensures { result ≡ is_passed plan.now version level slot phases.now }
 {
     (version.is_two() || slot != end_place(plan, level))
@@ -134,7 +140,13 @@ pub fn behind_pass(
 
 /// Whether a segment of a level's chain may rise because nobody took the grant: in the second
 /// version the controller's once the grant has passed the last board, and then one by one.
-fn is_run_out(plan: &Plan, version: Version, level: u8, place: u8, phases: &GrantPhases) -> bool
+pub(crate) fn is_run_out(
+    plan: &Plan,
+    version: Version,
+    level: u8,
+    place: u8,
+    phases: &GrantPhases,
+) -> bool
     ensures { result ≡ is_run_out plan.now version level place phases.now }
 {
     version.is_two()
@@ -146,7 +158,7 @@ fn is_run_out(plan: &Plan, version: Version, level: u8, place: u8, phases: &Gran
 }
 
 /// Whether a segment of a level's chain may rise because the board of a slot took the grant.
-fn is_let_go(plan: &Plan, level: u8, place: u8, board: u8, phases: &GrantPhases) -> bool
+pub(crate) fn is_let_go(plan: &Plan, level: u8, place: u8, board: u8, phases: &GrantPhases) -> bool
     ensures { result ≡ is_let_go plan.now level place phases.now board }
 {
     place < board && is_of_level(plan, level, board) && phases.held_row(board).has(place)
@@ -194,7 +206,7 @@ fn held_behind_rise(
 
 /// Whether the board of a slot may take the bus: a grant of its level may stand at it, and its
 /// level is requested.
-fn is_taken(plan: &Plan, requests: BusLevels, board: u8, phases: &GrantPhases) -> bool
+pub(crate) fn is_taken(plan: &Plan, requests: BusLevels, board: u8, phases: &GrantPhases) -> bool
     ensures { result ≡ is_taken plan.now requests phases.now board }
 {
     match requester_at(plan, board) {
@@ -283,7 +295,7 @@ pub fn behind_release(plan: &Plan, requests: BusLevels, phases: &GrantPhases) ->
 }
 
 /// Whether a level above this one is requested.
-fn is_asked_above(own: u8, requests: BusLevels) -> bool
+pub(crate) fn is_asked_above(own: u8, requests: BusLevels) -> bool
     ensures { result ≡ is_asked_above own requests }
 {
     [0, 1, 2, 3]
@@ -413,7 +425,7 @@ pub fn behind_withdrawal(
 }
 
 /// Whether bus clear is due to a board that holds the bus, once the controller's grant is high.
-fn can_be_due(plan: &Plan, requests: BusLevels, board: u8) -> bool
+pub(crate) fn can_be_due(plan: &Plan, requests: BusLevels, board: u8) -> bool
     ensures { result ≡ (is_pri plan.now.arbiter && is_outranked plan.now requests board) }
 {
     match plan.arbiter() {
@@ -423,7 +435,7 @@ fn can_be_due(plan: &Plan, requests: BusLevels, board: u8) -> bool
 }
 
 /// Whether both are so, or neither is.
-fn are_alike(a: bool, b: bool) -> bool
+pub(crate) fn are_alike(a: bool, b: bool) -> bool
     ensures { result ≡ are_alike a b }
 {
     a == b

@@ -4,7 +4,8 @@ ghost use Rattle.vme_bus.specs.Sets.{has};
 ghost use Rattle.vme_standings.specs.Interrupters.{is_meant, is_meant_at, is_on_low_line, SharesLevel, SharesLine};
 ghost use Rattle.vme_standings.specs.Requests.{is_on_level, AreShared};
 
-use crate::sets::{SLOTS, several};
+use crate::boards::slots_end;
+use crate::sets::several;
 use vme_bus::SlotSet;
 use vme_captures::{Levels, Line};
 use vme_model::{IrqKind, Row};
@@ -46,7 +47,7 @@ impl Interrupters {
     }
 
     /// Whether the slot has a board with such an interrupter.
-    fn has_at(self, plan: &Plan, slot: u8) -> bool
+    pub(crate) fn has_at(self, plan: &Plan, slot: u8) -> bool
         ensures { result ≡ is_meant_at self plan.now slot }
     {
         match plan.row(slot) {
@@ -61,7 +62,7 @@ impl Interrupters {
     {
         plan.accepted();
         let mut slots = SlotSet::NONE;
-        for slot in 0..SLOTS {
+        for slot in 0..slots_end(plan) {
             if self.has_at(plan, slot) {
                 slots = slots.with(slot);
             }
@@ -95,7 +96,7 @@ pub fn sharing(plan: &Plan) -> SlotSet
 
 /// Whether the slot has a board with an interrupter whose line is low.
 #[tactic(auto, using(crate::proofs::RequestRows::level_is))]
-fn is_on_low_line(plan: &Plan, lines: &Levels, slot: u8) -> bool
+pub(crate) fn is_on_low_line(plan: &Plan, lines: &Levels, slot: u8) -> bool
     ensures { result ≡ is_on_low_line lines.now plan.now slot }
 {
     plan.accepted();
@@ -114,7 +115,7 @@ pub fn on_low_lines(plan: &Plan, lines: &Levels) -> SlotSet
 {
     plan.accepted();
     let mut slots = SlotSet::NONE;
-    for slot in 0..SLOTS {
+    for slot in 0..slots_end(plan) {
         if is_on_low_line(plan, lines, slot) {
             slots = slots.with(slot);
         }

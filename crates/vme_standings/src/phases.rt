@@ -65,6 +65,18 @@ impl GrantPhases {
         }
     }
 
+    /// The set of all phases for which it has a place.
+    pub(crate) fn all() -> GrantPhases
+        ensures { HasExactly result is_in_table }
+    {
+        GrantPhases {
+            idle: [true; 4],
+            granting: [SlotSet::SLOTS; 4],
+            held: [SlotSet::SLOTS; 22],
+            expired: [SlotSet::SLOTS; 4],
+        }
+    }
+
     /// Whether the bus may be idle with this level last granted. It is false for any level above 3.
     pub fn is_idle_at(&self, level: u8) -> bool
         ensures { result ≡ is_idle_at self.now level }

@@ -78,6 +78,13 @@ impl Requests {
         }
     }
 
+    /// Which of these boards may pull their line.
+    pub fn pulling(&self, boards: SlotSet) -> SlotSet
+        ensures { (s : ℕ) → has result s ≡ pulls self.now boards s }
+    {
+        boards.and(self.pending.or(self.served))
+    }
+
     /// The line of these boards falls: one of them requests.
     pub fn falls(self, boards: SlotSet) -> Requests
         ensures { Falls boards self result }

@@ -3,8 +3,9 @@ use crate::asserts::assert_same;
 use std::alloc::AllocError;
 use std::io::{self, ErrorKind, Read, Write};
 use std::process::Abort;
-use vme_engines::{EngineFault, LineForm, Status, check, joined, replay};
+use vme_engines::{check, joined, replay};
 use vme_model::Edge;
+use vme_reading::{EngineFault, LineForm, Status};
 use vme_trace::{Fault, Patient, Reader, flush, pump, put, read_piece};
 
 /// The most reads of one input.

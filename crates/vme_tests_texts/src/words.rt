@@ -85,6 +85,16 @@ fn reads_two_traces_to_compare(rt: HostRuntime) {
 }
 
 #[test]
+fn reads_a_capture(rt: HostRuntime) {
+    let (scenario, capture) = ("board.toml", "-seen.cap");
+    assert_job(
+        &rt,
+        &["probe", scenario, "--", capture],
+        Job::Probe { scenario, capture },
+    );
+}
+
+#[test]
 fn reads_several_traces(rt: HostRuntime) {
     let given = ["summary", "board.toml", "a.vme", "--", "b.vme", "-c.vme"];
     match words(rt.alloc(), &given) {

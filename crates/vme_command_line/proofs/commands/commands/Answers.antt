@@ -2,7 +2,7 @@ use Rattle.std.proofs.Common.{true, refl, codes}
 use Rattle.std.proofs.lemmas.Result.{IfOk-weaker}
 use Rattle.clap.specs.Words.{App, new_app, with_subcommand}
 use Rattle.clap.specs.Simple.{on_top}
-use Rattle.vme_command_line.specs.Commands.{check, cycles, drive, explain, order, races, replay, rule, run, same, show, shrink, state, summary}
+use Rattle.vme_command_line.specs.Commands.{check, cycles, drive, explain, order, probe, races, replay, rule, run, same, show, shrink, state, summary}
 use Rattle.vme_command_line.proofs.commands.commands.Goals as goal
 
 abbrev bare : App
@@ -26,6 +26,9 @@ comparing = with_subcommand (with_subcommand counting races) same
 abbrev ordering : App
 ordering = with_subcommand comparing order
 
+abbrev probing : App
+probing = with_subcommand ordering probe
+
 pub returns : goal.returns
 returns c =
     let one = IfOk-weaker c.offering-program.result _ _ (λ made adds. adds bare replay c.program.ensures c.replay.ensures refl) c.offering-program.ensures in
@@ -40,5 +43,6 @@ returns c =
     let ten = IfOk-weaker c.offering-program-10.result _ _ (λ made adds. adds counting races nine c.races.ensures refl) c.offering-program-10.ensures in
     let eleven = IfOk-weaker c.offering-program-11.result _ _ (λ made adds. adds (with_subcommand counting races) same ten c.same.ensures refl) c.offering-program-11.ensures in
     let twelve = IfOk-weaker c.offering-program-12.result _ _ (λ made adds. adds comparing order eleven c.order.ensures refl) c.offering-program-12.ensures in
-    let thirteen = IfOk-weaker c.offering-program-13.result _ _ (λ made adds. adds ordering drive twelve c.drive.ensures refl) c.offering-program-13.ensures in
-    IfOk-weaker c.offering.result _ _ (λ made adds. adds (with_subcommand ordering drive) run thirteen c.run.ensures refl) c.offering.ensures
+    let thirteen = IfOk-weaker c.offering-program-13.result _ _ (λ made adds. adds ordering probe twelve c.probe.ensures refl) c.offering-program-13.ensures in
+    let fourteen = IfOk-weaker c.offering-program-14.result _ _ (λ made adds. adds probing drive thirteen c.drive.ensures refl) c.offering-program-14.ensures in
+    IfOk-weaker c.offering.result _ _ (λ made adds. adds (with_subcommand probing drive) run fourteen c.run.ensures refl) c.offering.ensures

@@ -1,8 +1,8 @@
 use Rattle.std.specs.Prelude.{None}
-use Rattle.vme_engines.specs.Streams.{streams, ReadNothing, WroteNothing}
-use Rattle.vme_engines.specs.Readings.{ReadsInput}
+use Rattle.vme_reading.specs.Streams.{streams, ReadNothing, WroteNothing}
+use Rattle.vme_reading.specs.Readings.{ReadsInput}
 use Rattle.vme_engines.specs.Checking.{Finds}
-use Rattle.vme_engines.proofs.ReadTraces.{lent_reading}
+use Rattle.vme_reading.proofs.ReadTraces.{lent_reading}
 use Rattle.vme_engines.proofs.checks.finding_of.Goals as goal
 
 pub returns : goal.returns

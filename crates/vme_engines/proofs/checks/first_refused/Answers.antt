@@ -1,7 +1,7 @@
 use Rattle.std.proofs.Common.{arith, refl, subst}
 use Rattle.vme_model.specs.Locality.{AreWellFormed}
 use Rattle.vme_engines.proofs.CheckPieces.{passed_refused, passed_more}
-use Rattle.vme_engines.proofs.FormedEdges.{formed_both}
+use Rattle.vme_reading.proofs.FormedEdges.{formed_both}
 use Rattle.vme_engines.proofs.checks.first_refused.Goals as goal
 
 pub returns-in-Some-clause-found : goal.returns-in-Some-clause-found

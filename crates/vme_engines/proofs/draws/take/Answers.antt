@@ -3,7 +3,7 @@ use Rattle.std.proofs.lemmas.Result.{err_from_is_err_and}
 use Rattle.vme_model.specs.Verdict.{made}
 use Rattle.vme_seeds.specs.Walks.{Walk, walked}
 use Rattle.vme_seeds.proofs.Walked.{walk_ends, walk_goes_on}
-use Rattle.vme_engines.specs.Texts.{IsListed, lines_made}
+use Rattle.vme_reading.specs.Texts.{IsListed, lines_made}
 use Rattle.vme_engines.proofs.ListedLines.{IsBefore, edge_listed, edge_cut}
 use Rattle.vme_engines.proofs.DrawnLines.{before_walked}
 use Rattle.vme_engines.proofs.draws.take.Goals as goal

@@ -1,6 +1,6 @@
 use Rattle.std.proofs.Common.{◌≡◌, ◌-◌}
 use Rattle.vme_seeds.specs.Walks.{walked}
-use Rattle.vme_engines.specs.Texts.{KeepsListed}
+use Rattle.vme_reading.specs.Texts.{KeepsListed}
 use Rattle.vme_engines.proofs.draws.take.Given as goal
 
 abbrev pub invariant-loop-made : goal.invariant-loop-made

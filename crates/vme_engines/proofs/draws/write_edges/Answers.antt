@@ -1,7 +1,7 @@
 use Rattle.std.proofs.Common.{sym, subst}
 use Rattle.vme_engines.specs.Seeking.{walk_to}
 use Rattle.vme_engines.specs.Drawing.{IsWellFormed}
-use Rattle.vme_engines.proofs.WrittenLines.{on_err}
+use Rattle.vme_reading.proofs.WrittenLines.{on_err}
 use Rattle.vme_engines.proofs.DrawnLines.{ended_cut, ended_part, ended_all, ended_front}
 use Rattle.vme_engines.proofs.SoughtGoals.{formed_end}
 use Rattle.vme_engines.proofs.draws.write_edges.Goals as goal

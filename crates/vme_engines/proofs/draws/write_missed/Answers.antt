@@ -2,7 +2,7 @@ use Rattle.std.proofs.Common.{◌∙◌, sym, ap, subst}
 use Rattle.vme_model.specs.Text.{edge_lines}
 use Rattle.vme_trace.specs.Writing.{AppendsFront}
 use Rattle.vme_engines.specs.Drawing.{missed_of}
-use Rattle.vme_engines.proofs.WrittenLines.{line_alone}
+use Rattle.vme_reading.proofs.WrittenLines.{line_alone}
 use Rattle.vme_trace.proofs.WrittenLines.{on_err_map}
 use Rattle.vme_engines.proofs.draws.write_missed.Goals as goal
 

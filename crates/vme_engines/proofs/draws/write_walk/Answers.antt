@@ -3,7 +3,7 @@ use Rattle.std.proofs.KnownBytes.{Appends-trans}
 use Rattle.vme_model.specs.Text.{header}
 use Rattle.vme_engines.specs.Drawing.{ended_lines, ended_text}
 use Rattle.vme_engines.specs.Seeking.{walk_to}
-use Rattle.vme_engines.proofs.WrittenLines.{front_of_more, front_behind, front_kept, on_err}
+use Rattle.vme_reading.proofs.WrittenLines.{front_of_more, front_behind, front_kept, on_err}
 use Rattle.vme_engines.proofs.draws.write_walk.Goals as goal
 
 pub returns-in_err-put-clause-front : goal.returns-in_err-put-clause-front

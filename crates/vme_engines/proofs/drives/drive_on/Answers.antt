@@ -3,8 +3,8 @@ use Rattle.std.proofs.lemmas.Result.{err_from_is_err_and}
 use Rattle.std.specs.Io.KnownBytes.{Appends}
 use Rattle.vme_model.specs.Verdict.{State}
 use Rattle.vme_model.specs.Offers.{rounds}
-use Rattle.vme_engines.specs.declared.Status.TheVariants.{Done, Limit}
-use Rattle.vme_engines.specs.Texts.{trace_made}
+use Rattle.vme_reading.specs.declared.Status.TheVariants.{Done, Limit}
+use Rattle.vme_reading.specs.Texts.{trace_made}
 use Rattle.vme_engines.proofs.DriveRounds.{drives_done, drives_cut, drives_safe}
 use Rattle.vme_engines.proofs.drives.drive_on.Goals as goal
 

@@ -1,4 +1,4 @@
-use Rattle.vme_engines.specs.Streams.{streams, ReadNothing, WroteNothing}
+use Rattle.vme_reading.specs.Streams.{streams, ReadNothing, WroteNothing}
 use Rattle.vme_engines.specs.Explaining.{ExplainsInput}
 use Rattle.vme_engines.proofs.Printed.{lent_known}
 use Rattle.vme_engines.proofs.explains.explain.Goals as goal

@@ -8,10 +8,10 @@ use Rattle.vme_model.specs.Verdict.{State, verdict}
 use Rattle.vme_model.specs.Deliveries.{answer, delivery}
 use Rattle.vme_model.specs.Why.{why_text}
 use Rattle.vme_trace.specs.Writing.{AppendsFront}
-use Rattle.vme_engines.specs.declared.Status.TheVariants.{Done, SomeRefused}
+use Rattle.vme_reading.specs.declared.Status.TheVariants.{Done, SomeRefused}
 use Rattle.vme_engines.specs.Explaining.{edge_status}
 use Rattle.vme_engines.proofs.FollowedEdges.{ok_with, of_after}
-use Rattle.vme_engines.proofs.WrittenLines.{on_err, front_kept}
+use Rattle.vme_reading.proofs.WrittenLines.{on_err, front_kept}
 use Rattle.vme_engines.proofs.explains.write_explained.Goals as goal
 
 -- whether the answer to an edge accepts it

@@ -6,8 +6,8 @@ use Rattle.vme_model.specs.declared.signals.Edge.{Edge}
 use Rattle.vme_model.specs.Verdict.{kept}
 use Rattle.vme_model.specs.Why.{edge_verdict}
 use Rattle.vme_trace.proofs.WrittenLines.{on_err_map}
-use Rattle.vme_engines.specs.Outcomes.{full_lines}
-use Rattle.vme_engines.proofs.WrittenLines.{full_next, handed_on, handed_front, lines_put, on_err}
+use Rattle.vme_reading.specs.Outcomes.{full_lines}
+use Rattle.vme_reading.proofs.WrittenLines.{full_next, handed_on, handed_front, lines_put, on_err}
 use Rattle.vme_engines.proofs.forms.write_full.Goals as goal
 
 abbrev some_edge : Edge

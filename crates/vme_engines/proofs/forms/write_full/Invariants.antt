@@ -1,7 +1,7 @@
 use Rattle.std.proofs.Common.{◌≡◌, ◌+◌, ◌++◌, drop}
 use Rattle.vme_model.specs.Verdict.{kept}
-use Rattle.vme_engines.specs.Outcomes.{full_lines}
-use Rattle.vme_engines.specs.Texts.{HandsOn}
+use Rattle.vme_reading.specs.Outcomes.{full_lines}
+use Rattle.vme_reading.specs.Texts.{HandsOn}
 use Rattle.vme_engines.proofs.forms.write_full.Given as goal
 
 abbrev pub invariant-loop-edge : goal.invariant-loop-edge

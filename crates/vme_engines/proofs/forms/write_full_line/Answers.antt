@@ -1,5 +1,5 @@
 use Rattle.std.proofs.Common.{◌∙◌, ◌++◌, ap}
-use Rattle.vme_engines.proofs.WrittenLines.{text_put}
+use Rattle.vme_reading.proofs.WrittenLines.{text_put}
 use Rattle.vme_engines.proofs.forms.write_full_line.Goals as goal
 
 pub returns-clause-ok : goal.returns-clause-ok

@@ -2,7 +2,7 @@ use Rattle.std.proofs.Common.{[], Option, Ok, Err, take, ap, ◌∙◌, append-n
 use Rattle.std.proofs.KnownBytes.{Consumes-kept, Consumes-trans}
 use Rattle.std.specs.Io.KnownBytes.{Consumes}
 use Rattle.vme_trace.specs.declared.Fault.TheVariants.{Header, Read}
-use Rattle.vme_engines.specs.declared.EngineFault.TheVariants as fault
+use Rattle.vme_reading.specs.declared.EngineFault.TheVariants as fault
 use Rattle.vme_engines.specs.declared.joins.Found.{Found}
 use Rattle.vme_engines.proofs.Fronts.{no_trace, joins_none, joins_found, front_more, found_at, none_at}
 use Rattle.vme_engines.proofs.joins.joined.Goals as goal

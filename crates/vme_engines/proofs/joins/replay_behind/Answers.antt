@@ -3,11 +3,11 @@ use Rattle.std.proofs.lemmas.Result.{err_from_is_err_and}
 use Rattle.std.proofs.KnownBytes.{Keeps-refl}
 use Rattle.vme_model.specs.Text.{header}
 use Rattle.std.specs.Io.KnownBytes.{Keeps}
-use Rattle.vme_engines.specs.Streams.{streams}
-use Rattle.vme_engines.specs.declared.LineForm.TheVariants.{Short}
-use Rattle.vme_engines.specs.Outcomes.{Replays}
-use Rattle.vme_engines.specs.Steps.{IsNoPlan}
-use Rattle.vme_engines.proofs.FirstReads.{no_plan_asking}
+use Rattle.vme_reading.specs.Streams.{streams}
+use Rattle.vme_reading.specs.declared.LineForm.TheVariants.{Short}
+use Rattle.vme_reading.specs.Outcomes.{Replays}
+use Rattle.vme_reading.specs.Steps.{IsNoPlan}
+use Rattle.vme_reading.proofs.FirstReads.{no_plan_asking}
 use Rattle.vme_engines.proofs.AfterScenario.{no_plan_of, plan_of_text, input_behind}
 use Rattle.vme_engines.proofs.joins.replay_behind.Goals as goal
 

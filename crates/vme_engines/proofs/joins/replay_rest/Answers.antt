@@ -1,9 +1,9 @@
 use Rattle.std.proofs.Common.{[], ◌∷◌, ◌++◌}
 use Rattle.vme_model.specs.Text.{header}
-use Rattle.vme_engines.specs.declared.LineForm.TheVariants.{Short}
+use Rattle.vme_reading.specs.declared.LineForm.TheVariants.{Short}
 use Rattle.vme_engines.proofs.ReplayPieces.{behind_text, input_of, replays_behind}
 use Rattle.vme_engines.proofs.AfterScenario.{came_start, counted_start}
-use Rattle.vme_engines.proofs.FormedEdges.{formed_start}
+use Rattle.vme_engines.proofs.FormedStarts.{formed_start}
 use Rattle.vme_engines.proofs.joins.replay_rest.Goals as goal
 
 pub read_on-requires : goal.read_on-requires

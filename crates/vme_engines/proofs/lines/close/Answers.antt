@@ -1,6 +1,6 @@
 use Rattle.std.proofs.Common.{◌∙◌, subst}
 use Rattle.std.specs.Io.KnownBytes.{Appends}
-use Rattle.vme_engines.proofs.WrittenLines.{front_kept, on_err}
+use Rattle.vme_reading.proofs.WrittenLines.{front_kept, on_err}
 use Rattle.vme_engines.proofs.lines.close.Goals as goal
 
 pub returns-clause-front : goal.returns-clause-front

@@ -1,6 +1,6 @@
 use Rattle.std.proofs.Common.{arith}
 use Rattle.vme_engines.proofs.RecordedLines.{lines_of_group}
-use Rattle.vme_engines.proofs.WrittenLines.{handed_on, handed_front, lines_put, on_err}
+use Rattle.vme_reading.proofs.WrittenLines.{handed_on, handed_front, lines_put, on_err}
 use Rattle.vme_engines.proofs.lines.write_lines.Goals as goal
 
 pub returns-in_err-make_room-clause-front : goal.returns-in_err-make_room-clause-front

@@ -1,7 +1,7 @@
 use Rattle.std.proofs.Common.{◌≡◌, ◌+◌, ◌++◌, length, map}
 use Rattle.vme_bus.specs.Answers.{answer_of}
 use Rattle.vme_engines.specs.Recorded.{answer_lines}
-use Rattle.vme_engines.specs.Texts.{HandsOn}
+use Rattle.vme_reading.specs.Texts.{HandsOn}
 use Rattle.vme_engines.proofs.lines.write_lines.Given as goal
 
 abbrev pub invariant-loop-rest : goal.invariant-loop-rest

@@ -3,9 +3,9 @@ use Rattle.std.proofs.lemmas.List.{length-take-le}
 use Rattle.vme_model.specs.Verdict.{kept}
 use Rattle.vme_model.specs.Locality.{AreWellFormed}
 use Rattle.vme_trace.proofs.WrittenLines.{on_err_map}
-use Rattle.vme_engines.proofs.FormedEdges.{formed_both}
+use Rattle.vme_reading.proofs.FormedEdges.{formed_both}
 use Rattle.vme_engines.proofs.RecordedLines.{lines_of_chunk}
-use Rattle.vme_engines.proofs.WrittenLines.{handed_on, handed_front, kept_append, lines_put, on_err}
+use Rattle.vme_reading.proofs.WrittenLines.{handed_on, handed_front, kept_append, lines_put, on_err}
 use Rattle.vme_engines.proofs.lines.write_verdicts.Goals as goal
 
 pub returns-in_err-write_lines-clause-front : goal.returns-in_err-write_lines-clause-front

@@ -2,7 +2,7 @@ use Rattle.std.proofs.Common.{◌≡◌, ◌+◌, ◌++◌, length}
 use Rattle.vme_model.specs.Verdict.{kept}
 use Rattle.vme_model.specs.Locality.{AreWellFormed}
 use Rattle.vme_model.specs.Report.{verdict_lines}
-use Rattle.vme_engines.specs.Texts.{HandsOn}
+use Rattle.vme_reading.specs.Texts.{HandsOn}
 use Rattle.vme_engines.proofs.lines.write_verdicts.Given as goal
 
 abbrev pub invariant-loop-rest : goal.invariant-loop-rest

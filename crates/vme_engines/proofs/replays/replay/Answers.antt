@@ -1,6 +1,6 @@
-use Rattle.vme_engines.specs.Streams.{streams, ReadNothing, WroteNothing}
-use Rattle.vme_engines.specs.Outcomes.{ReplaysInput}
-use Rattle.vme_engines.proofs.ReadTraces.{lent_status}
+use Rattle.vme_reading.specs.Streams.{streams, ReadNothing, WroteNothing}
+use Rattle.vme_reading.specs.Outcomes.{ReplaysInput}
+use Rattle.vme_reading.proofs.ReadTraces.{lent_status}
 use Rattle.vme_engines.proofs.replays.replay.Goals as goal
 
 pub returns : goal.returns

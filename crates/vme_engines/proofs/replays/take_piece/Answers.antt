@@ -1,6 +1,6 @@
 use Rattle.std.proofs.Common.{Ok, inr, ◌∙◌, ap}
 use Rattle.std.proofs.lemmas.Result.{err_from_is_err_and}
-use Rattle.vme_engines.proofs.WrittenLines.{front_of_more, closing_front}
+use Rattle.vme_reading.proofs.WrittenLines.{front_of_more, closing_front}
 use Rattle.vme_engines.proofs.replays.take_piece.Goals as goal
 
 pub returns-in_err-write_form : goal.returns-in_err-write_form

@@ -2,7 +2,7 @@ use Rattle.std.proofs.Common.{◌≡◌, ◌-◌}
 use Rattle.vme_events.specs.Places.{by_place}
 use Rattle.vme_explain.specs.Marked.{IsMarksOf}
 use Rattle.vme_engines.specs.Seeking.{sought}
-use Rattle.vme_engines.specs.Texts.{KeepsListed}
+use Rattle.vme_reading.specs.Texts.{KeepsListed}
 use Rattle.vme_engines.proofs.seeks.seek.Given as goal
 
 abbrev pub invariant-loop-made : goal.invariant-loop-made

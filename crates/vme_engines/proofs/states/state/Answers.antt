@@ -1,4 +1,4 @@
-use Rattle.vme_engines.specs.Streams.{streams, ReadNothing, WroteNothing}
+use Rattle.vme_reading.specs.Streams.{streams, ReadNothing, WroteNothing}
 use Rattle.vme_engines.specs.Stating.{StatesInput}
 use Rattle.vme_engines.proofs.Printed.{lent_known}
 use Rattle.vme_engines.proofs.states.state.Goals as goal

@@ -3,7 +3,7 @@ use Rattle.vme_model.specs.Stands.{stands_text}
 use Rattle.std.proofs.KnownBytes.{Appends-kept}
 use Rattle.vme_trace.specs.Writing.{AppendsFront}
 use Rattle.vme_engines.proofs.FollowedEdges.{of_after}
-use Rattle.vme_engines.proofs.WrittenLines.{on_err, front_kept}
+use Rattle.vme_reading.proofs.WrittenLines.{on_err, front_kept}
 use Rattle.vme_engines.proofs.states.write_place.Goals as goal
 
 pub returns-in_err-write_stands-clause-front : goal.returns-in_err-write_stands-clause-front

@@ -1,6 +1,6 @@
-use Rattle.vme_engines.specs.Streams.{streams, ReadNothing, WroteNothing}
+use Rattle.vme_reading.specs.Streams.{streams, ReadNothing, WroteNothing}
 use Rattle.vme_engines.specs.Summing.{SumsInput}
-use Rattle.vme_engines.proofs.ReadTraces.{lent_status}
+use Rattle.vme_reading.proofs.ReadTraces.{lent_status}
 use Rattle.vme_engines.proofs.summaries.summary.Goals as goal
 
 pub returns : goal.returns

@@ -1,5 +1,5 @@
 use Rattle.std.proofs.Common.{◌∙◌, ap}
-use Rattle.vme_engines.specs.Outcomes.{status_with}
+use Rattle.vme_reading.specs.Outcomes.{status_with}
 use Rattle.vme_engines.proofs.totals.add_trace.Goals as goal
 
 pub returns-clause-adds : goal.returns-clause-adds

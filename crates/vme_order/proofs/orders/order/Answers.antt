@@ -1,4 +1,4 @@
-use Rattle.vme_engines.specs.Streams.{ReadNothing, WroteNothing, streams}
+use Rattle.vme_reading.specs.Streams.{ReadNothing, WroteNothing, streams}
 use Rattle.std.proofs.KnownBytes.{Keeps-refl}
 use Rattle.vme_order.proofs.Answered.{unnamed}
 use Rattle.vme_order.proofs.orders.order.Goals as goal

@@ -1,7 +1,7 @@
 use Rattle.std.proofs.Common.{subst, sym}
 use Rattle.std.proofs.KnownBytes.{Keeps-refl}
 use Rattle.std.proofs.lemmas.Result.{err_from_is_err_and}
-use Rattle.vme_engines.specs.Streams.{streams}
+use Rattle.vme_reading.specs.Streams.{streams}
 use Rattle.vme_moments.specs.Orders.{AreInOrder}
 use Rattle.vme_order.proofs.Answered.{cut_off, found_in, not_read, written}
 use Rattle.vme_order.proofs.orders.order_on.Goals as goal

@@ -1,4 +1,4 @@
-use Rattle.vme_engines.proofs.WrittenLines.{front_of_more, on_err}
+use Rattle.vme_reading.proofs.WrittenLines.{front_of_more, on_err}
 use Rattle.vme_same.specs.Lines.{found_lines}
 use Rattle.vme_program.specs.Comparisons.{beginning_of}
 use Rattle.vme_program.proofs.EscapedNames.{two_second}

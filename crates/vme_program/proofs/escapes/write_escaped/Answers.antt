@@ -4,7 +4,7 @@ use Rattle.std.proofs.lemmas.Iterator.{YieldsList-from_chars}
 use Rattle.std.proofs.lemmas.Iterator.Consumers.{YieldsList-end, YieldsList-so_far, YieldsList-turn}
 use Rattle.std.specs.List.{flat_map}
 use Rattle.std.specs.Io.KnownBytes.{Appends}
-use Rattle.vme_engines.proofs.WrittenLines.{on_err}
+use Rattle.vme_reading.proofs.WrittenLines.{on_err}
 use Rattle.vme_escapes.specs.Shown.{shown}
 use Rattle.vme_program.proofs.EscapedNames.{name_more, name_part}
 use Rattle.vme_program.proofs.escapes.write_escaped.Goals as goal

@@ -1,5 +1,5 @@
 use Rattle.std.proofs.Common.{None}
-use Rattle.vme_engines.specs.Outcomes.{ReplaysInput}
+use Rattle.vme_reading.specs.Outcomes.{ReplaysInput}
 use Rattle.vme_program.specs.Names.{line_form}
 use Rattle.vme_program.proofs.Handing.{on_trace}
 use Rattle.vme_program.proofs.jobs.run_replay.Goals as goal

@@ -1,5 +1,5 @@
 use Rattle.std.proofs.Common.{None}
-use Rattle.vme_engines.specs.Streams.{streams}
+use Rattle.vme_reading.specs.Streams.{streams}
 use Rattle.vme_program.proofs.Compared.{same_faulty, same_found}
 use Rattle.vme_program.proofs.jobs.run_same.Goals as goal
 

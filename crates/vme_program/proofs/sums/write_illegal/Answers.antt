@@ -1,5 +1,5 @@
 use Rattle.std.proofs.Common.{codes}
-use Rattle.vme_engines.proofs.WrittenLines.{front_of_more, on_err}
+use Rattle.vme_reading.proofs.WrittenLines.{front_of_more, on_err}
 use Rattle.vme_escapes.specs.Shown.{escaped}
 use Rattle.vme_program.proofs.EscapedNames.{two_second}
 use Rattle.vme_program.proofs.sums.write_illegal.Goals as goal

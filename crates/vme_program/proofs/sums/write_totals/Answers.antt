@@ -1,4 +1,4 @@
-use Rattle.vme_engines.proofs.WrittenLines.{on_err}
+use Rattle.vme_reading.proofs.WrittenLines.{on_err}
 use Rattle.vme_program.proofs.Adding.{count_cut, no_totals, totals_cut, totals_written}
 use Rattle.vme_program.proofs.sums.write_totals.Goals as goal
 

@@ -1,4 +1,4 @@
-use Rattle.vme_engines.specs.Streams.{streams, ReadNothing, WroteNothing}
+use Rattle.vme_reading.specs.Streams.{streams, ReadNothing, WroteNothing}
 use Rattle.vme_races.specs.Asked.{PrintsWalkInput}
 use Rattle.vme_races.proofs.AskedLines.{lent_known}
 use Rattle.vme_races.proofs.asked.walk_of_edge.Goals as goal

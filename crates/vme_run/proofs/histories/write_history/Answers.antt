@@ -2,7 +2,7 @@ use Rattle.std.proofs.Common.{◌++◌, ◌∷◌, []}
 use Rattle.std.proofs.KnownBytes.{Appends-trans}
 use Rattle.vme_model.specs.Text.{header, edge_lines, text}
 use Rattle.vme_model.specs.History.{in_order}
-use Rattle.vme_engines.proofs.WrittenLines.{front_of_more, front_behind, front_kept, on_err}
+use Rattle.vme_reading.proofs.WrittenLines.{front_of_more, front_behind, front_kept, on_err}
 use Rattle.vme_run.proofs.histories.write_history.Goals as goal
 
 pub returns-in_err-put-clause-front : goal.returns-in_err-put-clause-front

@@ -1,5 +1,5 @@
 use Rattle.std.proofs.Common.{None}
-use Rattle.vme_engines.specs.Streams.{ReadNothing, streams}
+use Rattle.vme_reading.specs.Streams.{ReadNothing, streams}
 use Rattle.vme_same.proofs.Read.{compared}
 use Rattle.vme_same.proofs.judge.compare.Goals as goal
 

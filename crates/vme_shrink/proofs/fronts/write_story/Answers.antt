@@ -5,7 +5,7 @@ use Rattle.vme_model.specs.Report.{at_power_up, trace_limit}
 use Rattle.vme_model.specs.Signals.{is_well_formed}
 use Rattle.vme_model.specs.Text.{text}
 use Rattle.vme_model.specs.Verdict.{State, verdict}
-use Rattle.vme_engines.specs.declared.Status.TheVariants.{Done, SomeRefused}
+use Rattle.vme_reading.specs.declared.Status.TheVariants.{Done, SomeRefused}
 use Rattle.vme_shrink.proofs.WrittenStories.{story_cut, story_formed, story_text}
 use Rattle.vme_shrink.proofs.fronts.write_story.Goals as goal
 

@@ -1,4 +1,4 @@
-use Rattle.vme_engines.specs.Streams.{streams, ReadNothing, WroteNothing}
+use Rattle.vme_reading.specs.Streams.{streams, ReadNothing, WroteNothing}
 use Rattle.vme_shrink.specs.Shrinking.{ShrinksInput}
 use Rattle.vme_shrink.proofs.WrittenStories.{lent_known}
 use Rattle.vme_shrink.proofs.shrinks.shrink.Goals as goal

@@ -2,7 +2,7 @@ use Rattle.std.proofs.Common.{◌∷◌, [], ◌++◌, sym}
 use Rattle.std.proofs.KnownBytes.{Appends-kept, Appends-trans}
 use Rattle.vme_model.specs.Text.{edge_lines, header}
 use Rattle.vme_trace.proofs.WrittenLines.{first_front, on_err, second_front}
-use Rattle.vme_engines.proofs.WrittenLines.{front_kept}
+use Rattle.vme_reading.proofs.WrittenLines.{front_kept}
 use Rattle.vme_shrink.proofs.writing.write_trace.Goals as goal
 
 pub returns-in_err-put-clause-front : goal.returns-in_err-put-clause-front

@@ -4,7 +4,7 @@ use Rattle.vme_model.specs.declared.signals.Wire.TheVariants.{Bbsy, AddressStrob
 use Rattle.vme_model.specs.History.{drive}
 use Rattle.vme_captures.specs.declared.signals.Line.TheVariants as line
 use Rattle.vme_captures.specs.declared.signals.Signal.TheVariants as signal
-use Rattle.vme_standings.proofs.Drivers.{fall_by, fall_leaves, rise_leaves, rise_by, fell, rose, holds_bus}
+use Rattle.vme_standings.proofs.WhoDrives.{fall_by, fall_leaves, rise_leaves, rise_by, fell, rose, holds_bus}
 use Rattle.vme_standings.proofs.SeenLines.{differs, way}
 use Rattle.vme_standings.proofs.laws.address_strobe_falls_and_rises.Goals as goal
 

@@ -1,7 +1,7 @@
 use Rattle.vme_model.specs.declared.signals.Wire.TheVariants.{Dtack}
 use Rattle.vme_captures.specs.declared.signals.Line.TheVariants as line
 use Rattle.vme_captures.specs.declared.signals.Signal.TheVariants as signal
-use Rattle.vme_standings.proofs.Drivers.{fall_leaves, rise_leaves, rise_by, fell, rose}
+use Rattle.vme_standings.proofs.WhoDrives.{fall_leaves, rise_leaves, rise_by, fell, rose}
 use Rattle.vme_standings.proofs.SeenLines.{differs, way}
 use Rattle.vme_standings.proofs.laws.answer_falls_and_rises.Goals as goal
 

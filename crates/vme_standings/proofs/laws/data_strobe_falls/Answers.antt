@@ -3,7 +3,7 @@ use Rattle.vme_model.specs.declared.signals.Wire.TheVariants.{DataStrobe}
 use Rattle.vme_bus.specs.Sets.{has}
 use Rattle.vme_captures.specs.declared.signals.Line.TheVariants as line
 use Rattle.vme_captures.specs.declared.signals.Signal.TheVariants as signal
-use Rattle.vme_standings.proofs.Drivers.{fall_by, fell, strobes}
+use Rattle.vme_standings.proofs.WhoDrives.{fall_by, fell, strobes}
 use Rattle.vme_standings.proofs.SeenLines.{differs, way}
 use Rattle.vme_standings.proofs.laws.data_strobe_falls.Goals as goal
 

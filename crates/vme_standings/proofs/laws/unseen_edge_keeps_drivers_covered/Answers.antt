@@ -1,4 +1,4 @@
-use Rattle.vme_standings.proofs.Drivers.{unseen_addressers, unseen_answerers}
+use Rattle.vme_standings.proofs.WhoDrives.{unseen_addressers, unseen_answerers}
 use Rattle.vme_standings.proofs.laws.unseen_edge_keeps_drivers_covered.Goals as goal
 
 pub returns : goal.returns

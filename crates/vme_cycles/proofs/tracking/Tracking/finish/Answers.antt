@@ -1,7 +1,7 @@
 use Rattle.std.proofs.Common.{◌∙◌}
 use Rattle.std.proofs.KnownBytes.{Appends-kept}
 use Rattle.vme_trace.proofs.WrittenLines.{first_front, on_err}
-use Rattle.vme_engines.proofs.WrittenLines.{front_kept}
+use Rattle.vme_reading.proofs.WrittenLines.{front_kept}
 use Rattle.vme_cycles.specs.Outcomes.{last_lines}
 use Rattle.vme_cycles.proofs.LeftOfTrace.{all_last, part_last}
 use Rattle.vme_cycles.proofs.tracking.Tracking.finish.Goals as goal

@@ -2,7 +2,7 @@ use Rattle.std.proofs.Common.{◌∙◌, ap, arith, sym}
 use Rattle.vme_model.specs.declared.signals.Driver.TheVariants.{Slot}
 use Rattle.vme_model.specs.History.{cycles}
 use Rattle.vme_model.specs.Numbered.{edges_in, numbered}
-use Rattle.vme_engines.specs.Outcomes.{bench}
+use Rattle.vme_reading.specs.Outcomes.{bench}
 use Rattle.vme_cycles.proofs.Behind.{few_cycles}
 use Rattle.vme_cycles.proofs.tracking.Tracking.made.Goals as goal
 

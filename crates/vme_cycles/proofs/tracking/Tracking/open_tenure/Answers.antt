@@ -3,7 +3,7 @@ use Rattle.std.specs.Prelude.{option_map}
 use Rattle.std.specs.Option.{option_map_or}
 use Rattle.vme_model.specs.declared.signals.Driver.TheVariants.{Slot}
 use Rattle.vme_model.specs.Numbered.{numbered}
-use Rattle.vme_engines.specs.Outcomes.{bench}
+use Rattle.vme_reading.specs.Outcomes.{bench}
 use Rattle.vme_cycles.specs.Transactions.{tenure_line}
 use Rattle.vme_cycles.proofs.Behind.{holder_is}
 use Rattle.vme_cycles.proofs.tracking.Tracking.open_tenure.Goals as goal

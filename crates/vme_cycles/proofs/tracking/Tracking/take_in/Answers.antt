@@ -2,7 +2,7 @@ use Rattle.std.proofs.Common.{◌≡◌, ◌+◌, ◌<◌, ◌^◌, ◌∙◌, a
 use Rattle.vme_model.specs.Deliveries.{delivery}
 use Rattle.vme_model.specs.Numbered.{Numbered, numbered}
 use Rattle.vme_model.specs.Verdict.{verdict}
-use Rattle.vme_engines.specs.Outcomes.{bench}
+use Rattle.vme_reading.specs.Outcomes.{bench}
 use Rattle.vme_cycles.specs.Kept.{IsCycleOf, IsTenureOf}
 use Rattle.vme_cycles.proofs.Behind.{edges_are, numbered_within, plan_is, sent_is}
 use Rattle.vme_cycles.proofs.NextLines.{line_accepted, numbered_accepted, numbered_refused}

@@ -1,6 +1,6 @@
 use Rattle.std.proofs.Common.{◌≡◌, ◌-◌}
 use Rattle.vme_model.specs.Offers.{rounds, rounds_from}
-use Rattle.vme_engines.specs.Texts.{KeepsListed}
+use Rattle.vme_reading.specs.Texts.{KeepsListed}
 use Rattle.vme_engines.proofs.drives.Driving.take_rounds.Given as goal
 
 abbrev pub invariant-loop-round : goal.invariant-loop-round

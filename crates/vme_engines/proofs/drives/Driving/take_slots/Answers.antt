@@ -2,7 +2,7 @@ use Rattle.std.proofs.Common.{◌∙◌, refl, subst, arith}
 use Rattle.std.proofs.lemmas.Result.{err_from_is_err_and}
 use Rattle.vme_model.specs.Verdict.{State}
 use Rattle.vme_trace.specs.Writing.{AppendsFront}
-use Rattle.vme_engines.specs.Texts.{lines_made}
+use Rattle.vme_reading.specs.Texts.{lines_made}
 use Rattle.vme_engines.proofs.SlotsInTurn.{next_slot, last_slot, slots_front}
 use Rattle.vme_engines.proofs.drives.Driving.take_slots.Goals as goal
 

@@ -1,5 +1,5 @@
 use Rattle.std.proofs.Common.{◌≡◌, ◌-◌, ◌<◌}
-use Rattle.vme_engines.specs.Texts.{KeepsListed}
+use Rattle.vme_reading.specs.Texts.{KeepsListed}
 use Rattle.vme_engines.proofs.SlotsInTurn.{up_to_slot}
 use Rattle.vme_engines.proofs.drives.Driving.take_slots.Given as goal
 

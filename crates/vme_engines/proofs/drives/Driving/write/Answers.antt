@@ -2,8 +2,8 @@ use Rattle.std.proofs.Common.{ap, ◌∙◌, ◌++◌, ◌∷◌, []}
 use Rattle.vme_model.specs.declared.signals.Version.{Version}
 use Rattle.vme_model.specs.Text.{header}
 use Rattle.vme_model.specs.Offers.{rounds}
-use Rattle.vme_engines.specs.Texts.{trace_made}
-use Rattle.vme_engines.proofs.WrittenLines.{front_kept, on_err}
+use Rattle.vme_reading.specs.Texts.{trace_made}
+use Rattle.vme_reading.proofs.WrittenLines.{front_kept, on_err}
 use Rattle.vme_engines.proofs.DrivenLines.{unheaded, cut_off, all_written, part_written, on_kept}
 use Rattle.vme_engines.proofs.drives.Driving.write.Goals as goal
 

@@ -1,6 +1,6 @@
 use Rattle.std.proofs.Common.{◌≡◌, ◌∙◌, sym, subst, arith, rules, List, None}
 use Rattle.vme_model.specs.declared.signals.Edge.{Edge}
-use Rattle.vme_engines.specs.Outcomes.{bench}
+use Rattle.vme_reading.specs.Outcomes.{bench}
 use Rattle.vme_engines.specs.Checking.{first_refusal}
 use Rattle.vme_engines.specs.Followed.{IsAfter, counted}
 use Rattle.vme_engines.proofs.FollowedEdges.{comes_to_refused, next_list, none_more, refused_same}

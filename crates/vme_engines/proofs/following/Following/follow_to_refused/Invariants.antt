@@ -1,5 +1,5 @@
 use Rattle.std.proofs.Common.{◌≡◌, ◌+◌, ◌++◌, take, None}
-use Rattle.vme_engines.specs.Outcomes.{bench}
+use Rattle.vme_reading.specs.Outcomes.{bench}
 use Rattle.vme_engines.specs.Checking.{first_refusal}
 use Rattle.vme_engines.specs.Followed.{IsAfter, OfUnasked}
 use Rattle.vme_engines.proofs.following.Following.follow_to_refused.Given as goal

@@ -1,5 +1,5 @@
 use Rattle.std.proofs.Common.{refl}
-use Rattle.vme_engines.specs.Outcomes.{bench}
+use Rattle.vme_reading.specs.Outcomes.{bench}
 use Rattle.vme_engines.proofs.ReplayPieces.{piece_none}
 use Rattle.vme_engines.proofs.replays.ReplayingJudge.begin.Goals as goal
 

@@ -1,7 +1,7 @@
 use Rattle.std.proofs.Common.{◌++◌, subst}
-use Rattle.vme_engines.specs.declared.LineForm.{LineForm}
-use Rattle.vme_engines.specs.Outcomes.{bench}
-use Rattle.vme_engines.specs.Steps.{TakesPiece}
+use Rattle.vme_reading.specs.declared.LineForm.{LineForm}
+use Rattle.vme_reading.specs.Outcomes.{bench}
+use Rattle.vme_reading.specs.Steps.{TakesPiece}
 use Rattle.vme_engines.proofs.ReplayPieces.{replay_goes_on, replay_takes, replays_more}
 use Rattle.vme_engines.proofs.replays.ReplayingJudge.take.Goals as goal
 

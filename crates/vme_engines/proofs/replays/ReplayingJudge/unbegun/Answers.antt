@@ -1,4 +1,4 @@
-use Rattle.vme_engines.proofs.FirstReads.{replay_unbegun}
+use Rattle.vme_reading.proofs.FirstReads.{replay_unbegun}
 use Rattle.vme_engines.proofs.replays.ReplayingJudge.unbegun.Goals as goal
 
 pub returns : goal.returns

@@ -1,6 +1,6 @@
 use Rattle.std.proofs.Common.{◌<◌, ◌∙◌, ◌++◌, length, subst, sym}
 use Rattle.vme_engines.specs.declared.shows.Stretch.{Stretch}
-use Rattle.vme_engines.specs.Outcomes.{bench}
+use Rattle.vme_reading.specs.Outcomes.{bench}
 use Rattle.vme_engines.specs.Shown.{Ends}
 use Rattle.vme_engines.proofs.ShownTraces.{shows_takes}
 use Rattle.vme_engines.proofs.shows.ShowingJudge.take.Goals as goal

@@ -5,9 +5,9 @@ use Rattle.vme_model.specs.Plan.{Plan}
 use Rattle.vme_trace.specs.Writing.{AppendsFront}
 use Rattle.vme_summary.specs.Tally.{answered}
 use Rattle.vme_summary.specs.Summary.{summary_text}
-use Rattle.vme_engines.specs.Outcomes.{bench}
+use Rattle.vme_reading.specs.Outcomes.{bench}
 use Rattle.vme_engines.specs.Summed.{sum_text}
-use Rattle.vme_engines.proofs.WrittenLines.{front_kept, on_err}
+use Rattle.vme_reading.proofs.WrittenLines.{front_kept, on_err}
 use Rattle.vme_engines.proofs.Sums.{plan_of}
 use Rattle.vme_engines.proofs.summaries.Summing.print_summary.Goals as goal
 

@@ -1,6 +1,6 @@
 use Rattle.std.proofs.Common.{◌∙◌}
 use Rattle.vme_summary.specs.Tally.{answered}
-use Rattle.vme_engines.specs.Outcomes.{bench}
+use Rattle.vme_reading.specs.Outcomes.{bench}
 use Rattle.vme_engines.proofs.Sums.{one_summed}
 use Rattle.vme_engines.proofs.summaries.Summing.take_edge.Goals as goal
 

@@ -4,7 +4,7 @@ use Rattle.std.proofs.KnownBytes.{Keeps-refl}
 use Rattle.vme_model.specs.Numbered.{numbered}
 use Rattle.vme_model.specs.Text.{text}
 use Rattle.vme_model.specs.Verdict.{verdict}
-use Rattle.vme_engines.specs.Outcomes.{bench}
+use Rattle.vme_reading.specs.Outcomes.{bench}
 use Rattle.vme_races.specs.Listed.{before_met}
 use Rattle.vme_races.specs.Lines.{is_race}
 use Rattle.vme_races.proofs.OtherOrders.{order_cut, ordered, raceless_none, refused_none}

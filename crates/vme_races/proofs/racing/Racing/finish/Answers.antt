@@ -1,6 +1,6 @@
 use Rattle.std.proofs.Common.{◌≡◌, ◌∙◌, ◌-◌, ap, length, rules}
 use Rattle.vme_trace.proofs.WrittenLines.{on_err}
-use Rattle.vme_engines.specs.Outcomes.{status_with}
+use Rattle.vme_reading.specs.Outcomes.{status_with}
 use Rattle.vme_races.proofs.WrittenRaces.{ends, ends_cut, ends_unflushed, refused_is}
 use Rattle.vme_races.proofs.racing.Racing.finish.Goals as goal
 

@@ -1,5 +1,5 @@
 use Rattle.vme_model.specs.Numbered.{numbered}
-use Rattle.vme_engines.specs.Outcomes.{bench}
+use Rattle.vme_reading.specs.Outcomes.{bench}
 use Rattle.vme_races.proofs.TakenIn.{kind_there}
 use Rattle.vme_races.proofs.racing.Racing.keep.Goals as goal
 

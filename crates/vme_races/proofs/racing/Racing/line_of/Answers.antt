@@ -1,7 +1,7 @@
 use Rattle.std.proofs.Common.{◌∙◌, ap, is_ok, sym}
 use Rattle.vme_model.specs.Numbered.{numbered}
 use Rattle.vme_model.specs.Verdict.{verdict}
-use Rattle.vme_engines.specs.Outcomes.{bench}
+use Rattle.vme_reading.specs.Outcomes.{bench}
 use Rattle.vme_races.proofs.AskedLines.{line_refused, line_walked}
 use Rattle.vme_races.proofs.TakenIn.{legal_there}
 use Rattle.vme_races.proofs.racing.Racing.line_of.Goals as goal

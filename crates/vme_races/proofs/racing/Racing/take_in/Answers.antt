@@ -1,7 +1,7 @@
 use Rattle.std.proofs.Common.{◌≡◌, ◌∙◌, ◌+◌, ◌<◌, ◌^◌, [], ap, arith, false, is_ok, length, refl, rules, subst, sym, true}
 use Rattle.vme_model.specs.Numbered.{numbered}
 use Rattle.vme_model.specs.Verdict.{verdict}
-use Rattle.vme_engines.specs.Outcomes.{bench}
+use Rattle.vme_reading.specs.Outcomes.{bench}
 use Rattle.vme_races.specs.Kinds.{IsOnPlan}
 use Rattle.vme_races.specs.Kept.{IsCounted}
 use Rattle.vme_races.specs.Lines.{race_line}

@@ -1,5 +1,5 @@
 use Rattle.std.proofs.KnownBytes.{Appends-kept}
-use Rattle.vme_engines.proofs.WrittenLines.{front_kept, on_err}
+use Rattle.vme_reading.proofs.WrittenLines.{front_kept, on_err}
 use Rattle.vme_races.proofs.racing.Racing.write_line_of.Goals as goal
 
 pub returns-in_err-put-clause-cuts : goal.returns-in_err-put-clause-cuts

@@ -1,6 +1,6 @@
 use Rattle.std.proofs.Common.{true}
 use Rattle.vme_model.specs.Numbered.{numbered}
-use Rattle.vme_engines.specs.Outcomes.{bench}
+use Rattle.vme_reading.specs.Outcomes.{bench}
 use Rattle.vme_same.proofs.Running.{found_of_edges}
 use Rattle.vme_same.proofs.matching.Matching.outcome.Goals as goal
 

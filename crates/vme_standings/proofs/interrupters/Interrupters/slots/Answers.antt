@@ -1,10 +1,10 @@
-use Rattle.std.proofs.Common.{◌≡◌, ◌∙◌, ap, sym, arith}
+use Rattle.std.proofs.Common.{◌≡◌, ◌∙◌, ◌+◌, ap, sym, arith}
 use Rattle.std.proofs.lemmas.Bool.Decides.{nat_tests}
 use Rattle.std.specs.Prelude.{◌&&◌, nat_lt}
 use Rattle.vme_bus.specs.declared.sets.SlotSet.{SlotSet}
 use Rattle.vme_bus.specs.Sets.{has}
 use Rattle.vme_standings.specs.Interrupters.{is_meant, is_meant_at}
-use Rattle.vme_bus.proofs.Boards.{all_below}
+use Rattle.vme_standings.proofs.Slots.{all_within}
 use Rattle.vme_standings.proofs.Loops.{one_more, none_more}
 use Rattle.vme_standings.proofs.interrupters.Interrupters.slots.Goals as goal
 use Rattle.vme_standings.proofs.interrupters.Interrupters.slots.Goals.{then-has_at, else-has_at}
@@ -25,7 +25,7 @@ loop-slot-preserved c =
 pub returns : goal.returns
 returns c s =
     let p = c.args.plan.now in
-    let ended : c.loop-slot.slot ≡ 22 = grind (arith, nat_tests, c.loop-slot.auto.slot-end, c.loop-slot-test.false) in
+    let ended : c.loop-slot.slot ≡ p.slots + 1 = grind (arith, nat_tests, c.loop-slot.auto.slot-end, c.loop-slot-test.false, c.slots_end-slot-end.ensures.end) in
     c.loop-slot.invariant s
     ∙ ap (λ n. nat_lt s n && is_meant_at c.args.self p s) ended
-    ∙ all_below p c.accepted.ensures s (is_meant c.args.self)
+    ∙ all_within p c.accepted.ensures s (is_meant c.args.self)

@@ -1,0 +1,14 @@
+-- The edges of a trace that a check has judged while all of them are accepted.
+use Rattle.std.specs.Prelude.{◌≡◌, ℕ, List, None, length}
+use Rattle.vme_model.specs.declared.signals.Edge.{Edge}
+use Rattle.vme_model.specs.declared.signals.Version.{Version}
+use Rattle.vme_model.specs.Plan.{Plan}
+use Rattle.vme_model.specs.Verdict.{State, kept}
+use Rattle.vme_reading.specs.Outcomes.{bench}
+use Rattle.vme_engines.specs.Checking.{first_refusal}
+
+-- These edges of a trace of this version were judged, and all are accepted.
+pub record AreAccepted (p : Plan) (v : Version) (es : List Edge) (b : State) (n : ℕ) : Type 0 where
+  pub unrefused : first_refusal 1 (bench p v) es ≡ None
+  pub bus : b ≡ kept (bench p v) es
+  pub judged : n ≡ length es

@@ -1,0 +1,22 @@
+-- one condition more in the walk along the conditions of a change: `left::first_failing`
+pub mod First
+-- the lines of the changes that may come: `answers`
+pub mod Coming
+-- one line more in a loop: `answers`
+pub mod LinesBelow
+-- a probe that is found: `answers`
+pub mod FoundPins
+-- what is known at the end of the head: `judging`
+pub mod Beginning
+-- what a capture says stands in lines without a fault: `probes`
+pub mod Said
+-- what is known and written, one thing that was said after the other: `probes`
+pub mod Judged
+-- a capture is read byte by byte: `probes`
+pub mod Reading
+-- what a reading leaves: `probes`
+pub mod Answered
+-- what is written at the end of a capture: `probes`
+pub mod Whole
+-- a piece, byte by byte: `probes`
+pub mod Pieces

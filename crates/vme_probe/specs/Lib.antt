@@ -1,0 +1,27 @@
+-- The definitions of the engine `probe`. `believe` marks what a theorem rests on, and `words` what
+-- only says how one function serves another.
+
+-- believe: what the engine writes and answers
+pub mod Probing
+-- believe: what is known of the bus behind what was said of a capture
+pub mod Knowing
+-- believe: the lines of the answer
+pub mod Lines
+-- believe: what is written at the end of a capture
+pub mod Ends
+-- believe: what is written of a change that nobody may have made
+pub mod Stopped
+-- believe: what is printed of a condition that fails
+pub mod Obstacles
+-- believe: what conditions ask of the standings of a record, and which of them fails first
+pub mod Demands
+-- believe: the conditions of each change
+pub mod Conditions
+-- words: the probed pins, as segments of the daisy chains
+pub mod Pins
+-- words: what the parts of a judgement do
+pub mod Steps
+-- words: what the parts of the reading of a capture do
+pub mod Reads
+-- words: how faults are reported
+pub mod Faults

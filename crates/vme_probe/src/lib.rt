@@ -1,0 +1,21 @@
+//! `probe`: whether a bus that keeps the rules can show a capture, who may have made each change,
+//! and who may move next.
+#![tactic(auto)]
+
+mod answers;
+mod conditions;
+mod cycle_conditions;
+mod demands;
+mod grant_conditions;
+mod judging;
+mod left;
+mod lines;
+mod obstacles;
+mod pins;
+mod probes;
+mod request_conditions;
+mod texts;
+
+pub use conditions::obstacle;
+pub use obstacles::{OBSTACLE, Obstacle, no_driver_line, obstacle_line};
+pub use probes::{ProbeFault, probe};

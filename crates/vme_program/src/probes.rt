@@ -1,0 +1,42 @@
+//! The job `probe`: what an analyser saw of a bus.
+ghost use Rattle.std.specs.Prelude.{◌≡◌, IfErr};
+ghost use Rattle.vme_program.specs.Done.{IsDone};
+ghost use Rattle.vme_program.specs.Names.{IsFaultOf, probe_answer_named};
+
+use crate::faults::ProgramFault;
+use crate::files::{open, read_scenario};
+use std::io::Write;
+use vme_command_line::Job;
+use vme_probe::{ProbeFault, probe};
+use vme_reading::Status;
+
+/// The answer of `probe`, given the name of the scenario.
+fn answer_of_probe<'a>(
+    name: &'a str,
+    answer: Result<Status, ProbeFault>,
+) -> Result<Status, ProgramFault<'a>>
+    ensures { result ≡ probe_answer_named name.entry answer }
+{
+    match answer {
+        Ok(status) => Ok(status),
+        Err(ProbeFault::Engine(fault)) => Err(ProgramFault::of_engine(name, fault)),
+        Err(ProbeFault::Capture(fault)) => Err(ProgramFault::Capture(fault)),
+    }
+}
+
+/// Judges what an analyser saw.
+#[inline(never)]
+pub(crate) fn run_probe<'a, W: Write>(
+    rt: &HostRuntime,
+    scenario: &'a str,
+    capture: &'a str,
+    out: &mut W,
+) -> Result<Status, ProgramFault<'a>>
+    ensures fault { IfErr result (IsFaultOf (Job.Probe scenario.entry capture.entry)) }
+    ensures done { IsDone (Job.Probe scenario.entry capture.entry)
+        (W.contents out.old) (W.contents out.new) result }
+{
+    let text = read_scenario(rt, scenario)?;
+    let mut input = open(rt, capture)?;
+    answer_of_probe(scenario, probe(rt.alloc(), &text, &mut input, out))
+}

@@ -1,0 +1,49 @@
+-- A fault of a trace that comes before an engine has what it waits for.
+use Rattle.std.proofs.Common.{◌≡◌, List, [], ℕ, Bool, Option, Some, None, Result, Err, sym, subst}
+use Rattle.vme_model.specs.declared.signals.Version.{Version}
+use Rattle.vme_model.specs.declared.signals.Edge.{Edge}
+use Rattle.vme_model.specs.Text.{Reading, read_of}
+use Rattle.vme_trace.specs.declared.Fault.{Fault}
+use Rattle.vme_trace.specs.declared.Fault.TheVariants.{Header, Line, TooLong, CutOff, Read, Memory, Failed, Write}
+use Rattle.vme_reading.specs.Streams.{Streams, streams}
+use Rattle.vme_reading.specs.Steps.{Begins}
+use Rattle.vme_reading.specs.Pieces.{Came, Stopped}
+use Rattle.vme_reading.specs.Begun.{IsUnread}
+use Rattle.vme_reading.specs.Waiting.{StopsWaiting}
+
+-- ---- behind the header line
+
+module _ (Waits : Option Version → List Edge → Type 0) (v : Version) (all : List ℕ) (s : Streams) (es : List Edge) (begins : Begins (read_of all) v es) (waits : Waits (Some v) es) where
+  waits_here : (r : Reading) → r.version ≡ Some v → r.edges ≡ es → Waits r.version r.edges
+  waits_here r named edges = subst (λ (w : Option Version). Waits w r.edges) (sym named) (subst (Waits (Some v)) (sym edges) waits)
+
+  pub stops_waiting : (f : Fault) → Stopped v all s.from s.to es f → StopsWaiting Waits all s f
+  stops_waiting Header h = (h.0, waits_here (read_of all) begins.version h.1)
+  stops_waiting (Line n) h = (h.0, waits_here (read_of all) begins.version h.1)
+  stops_waiting (TooLong n) h = (h.0, waits_here (read_of all) begins.version h.1)
+  stops_waiting CutOff h = (h.0, waits_here (read_of all) begins.version h.1)
+  stops_waiting Read h = (h.0, h.1, h.2, waits_here (read_of h.0) h.3 h.4)
+  stops_waiting Memory h = (es, begins.others, begins.edges, subst (λ (w : Option Version). Waits w es) (sym begins.version) waits)
+  stops_waiting Failed h = absurd h
+  stops_waiting Write h = absurd h
+
+-- by what the last read answered
+pub waits_now : (Waits : Option Version → List Edge → Type 0) (v : Version) (all : List ℕ) (s : Streams) (es : List Edge) (more : Result Bool Fault) → Came v all s.from s.to es more → Waits (Some v) es → (f : Fault) → more ≡ Err f → StopsWaiting Waits all s f
+waits_now Waits v all s es more came waits f is =
+    let end : Came v all s.from s.to es (Err f) = subst (Came v all s.from s.to es) is came in stops_waiting Waits v all s es end.0 waits f end.1
+
+-- ---- before it, where an engine still waits if it waits before the first edge
+module _ (Waits : Option Version → List Edge → Type 0) (waits : Waits None []) where
+  waits_unread : (w : Option Version) (es : List Edge) → IsUnread w es → Waits w es
+  waits_unread w es h = subst (λ (v : Option Version). Waits v es) (sym h.0) (subst (Waits None) (sym h.1) waits)
+
+  module _ (all : List ℕ) (s : Streams) where
+    pub stops_unread : (f : Fault) → StopsWaiting IsUnread all (streams s.from s.to None None) f → StopsWaiting Waits all s f
+    stops_unread Header h = (h.0, waits_unread (read_of all).version (read_of all).edges h.1)
+    stops_unread (Line n) h = (h.0, waits_unread (read_of all).version (read_of all).edges h.1)
+    stops_unread (TooLong n) h = (h.0, waits_unread (read_of all).version (read_of all).edges h.1)
+    stops_unread CutOff h = (h.0, waits_unread (read_of all).version (read_of all).edges h.1)
+    stops_unread Read h = (h.0, h.1, h.2, waits_unread (read_of h.0).version (read_of h.0).edges h.3)
+    stops_unread Memory h = (h.0, h.1, h.2, waits_unread (read_of all).version h.0 h.3)
+    stops_unread Failed h = absurd h
+    stops_unread Write h = absurd h
