@@ -10,8 +10,8 @@ use Rattle.vme_goals.specs.declared.goals.Goal.{Goal}
 use Rattle.vme_reach.specs.Needs.{hindrance_of}
 use Rattle.vme_reading.specs.declared.EngineFault.{EngineFault}
 use Rattle.vme_reading.specs.declared.EngineFault.TheVariants as fault
-use Rattle.vme_engines.specs.Drawing.{Draws}
-use Rattle.vme_engines.specs.Found.{Found, Finds, found_answer}
+use Rattle.vme_drive.specs.Drawing.{Draws}
+use Rattle.vme_drive.specs.Found.{Found, Finds, found_answer}
 use Rattle.vme_reading.specs.Outcomes.{Answer, Lent, scenario_limit}
 use Rattle.vme_reading.specs.Steps.{IsNoPlan}
 use Rattle.vme_command_line.specs.declared.Job.{Job}

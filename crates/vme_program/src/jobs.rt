@@ -8,7 +8,7 @@ ghost use Rattle.vme_scenario.specs.Format.{scenario as read};
 ghost use Rattle.vme_command_line.specs.Limits.{IsWindow, IsWithin, most_turns};
 ghost use Rattle.vme_trace.specs.Writing.{AppendsFront};
 ghost use Rattle.vme_program.specs.Done.{IsDone, rules_text};
-ghost use Rattle.vme_engines.specs.Found.{found_answer};
+ghost use Rattle.vme_drive.specs.Found.{found_answer};
 ghost use Rattle.vme_reading.specs.Outcomes.{scenario_limit};
 ghost use Rattle.vme_reading.specs.Steps.{IsNoPlan};
 ghost use Rattle.vme_reading.specs.declared.EngineFault.{EngineFault as EngineFaultValue};
@@ -29,9 +29,12 @@ use std::sync::Wait;
 use std::thread::Threads;
 use vme_command_line::{Job, VERSION};
 use vme_cycles::cycles;
-use vme_engines::{
-    check, drive, drive_drawn, drive_found, explain, joined, replay, show, state, summary,
-};
+use vme_check::check;
+use vme_drive::{drive, drive_drawn, drive_found};
+use vme_following::{explain, state};
+use vme_replay::{joined, replay};
+use vme_show::show;
+use vme_summary::summary;
 use vme_goals::Goal;
 use vme_model::Version;
 use vme_moments::Slacks;

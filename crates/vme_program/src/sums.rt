@@ -18,7 +18,7 @@ use crate::files::open;
 use crate::jobs::answer_of_trace;
 use arrayvec::ArrayVec;
 use std::io::Write;
-use vme_engines::add_trace;
+use vme_summary::add_trace;
 use vme_reading::Status;
 use vme_slots::Plan;
 use vme_summary::{Sums, write_sums};

@@ -6,7 +6,7 @@ ghost use Rattle.vme_model.specs.declared.signals.Version.{Version as VersionVal
 ghost use Rattle.vme_model.specs.Locality.{AreWellFormed};
 ghost use Rattle.vme_model.specs.Plan.{Plan as PlanValue};
 ghost use Rattle.vme_model.specs.Signals.{is_well_formed};
-ghost use Rattle.vme_engines.specs.Explaining.{IsUnasked};
+ghost use Rattle.vme_following.specs.Explaining.{IsUnasked};
 ghost use Rattle.vme_reading.specs.Outcomes.{LentAsking};
 ghost use Rattle.vme_reading.specs.Streams.{ReadNothing, WroteNothing, streams};
 ghost use Rattle.vme_races.specs.Asked.{IsLineOf, PrintsWalk, PrintsWalkInput};

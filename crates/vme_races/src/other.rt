@@ -8,7 +8,7 @@ ghost use Rattle.vme_model.specs.Plan.{Plan as PlanValue};
 ghost use Rattle.vme_model.specs.Signals.{is_well_formed};
 ghost use Rattle.vme_model.specs.Text.{text};
 ghost use Rattle.vme_trace.specs.Writing.{AppendsFront};
-ghost use Rattle.vme_engines.specs.Explaining.{IsUnasked};
+ghost use Rattle.vme_following.specs.Explaining.{IsUnasked};
 ghost use Rattle.vme_reading.specs.Readings.{ReadsInput, ReadsLent};
 ghost use Rattle.vme_reading.specs.Streams.{ReadNothing, WroteNothing, streams};
 ghost use Rattle.vme_races.specs.Listed.{AreListed, SeeksListed, WritesOrder, before_met};

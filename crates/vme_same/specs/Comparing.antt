@@ -10,7 +10,7 @@ use Rattle.vme_model.specs.declared.signals.Edge.{Edge}
 use Rattle.vme_model.specs.Plan.{Plan}
 use Rattle.vme_model.specs.Numbered.{Numbered, edges_in, numbered}
 use Rattle.vme_swaps.specs.Swaps.{IsFree}
-use Rattle.vme_engines.specs.Checking.{first_refusal}
+use Rattle.vme_reading.specs.Refusals.{first_refusal}
 use Rattle.vme_reading.specs.Outcomes.{bench}
 use Rattle.vme_races.specs.declared.walks.Stop.{Stop}
 use Rattle.vme_races.specs.declared.walks.Stop.TheVariants.{Far}

@@ -1,5 +1,5 @@
 use Rattle.std.proofs.Common.{None}
-use Rattle.vme_engines.specs.Checking.{ChecksInput}
+use Rattle.vme_check.specs.Checking.{ChecksInput}
 use Rattle.vme_program.proofs.Handing.{on_trace}
 use Rattle.vme_program.proofs.jobs.run_check.Goals as goal
 

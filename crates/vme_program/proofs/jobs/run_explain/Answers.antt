@@ -1,5 +1,5 @@
 use Rattle.std.proofs.Common.{None}
-use Rattle.vme_engines.specs.Explaining.{ExplainsInput}
+use Rattle.vme_following.specs.Explaining.{ExplainsInput}
 use Rattle.vme_program.proofs.Handing.{on_trace}
 use Rattle.vme_program.proofs.jobs.run_explain.Goals as goal
 

@@ -1,5 +1,5 @@
 use Rattle.std.proofs.Common.{None}
-use Rattle.vme_engines.specs.Showing.{ShowsInput}
+use Rattle.vme_show.specs.Showing.{ShowsInput}
 use Rattle.vme_program.proofs.Handing.{on_trace}
 use Rattle.vme_program.proofs.jobs.run_show.Goals as goal
 

@@ -1,5 +1,5 @@
 use Rattle.std.proofs.Common.{None}
-use Rattle.vme_engines.specs.Stating.{StatesInput}
+use Rattle.vme_following.specs.Stating.{StatesInput}
 use Rattle.vme_program.proofs.Handing.{on_trace}
 use Rattle.vme_program.proofs.jobs.run_state.Goals as goal
 

@@ -1,5 +1,5 @@
 use Rattle.std.proofs.Common.{None}
-use Rattle.vme_engines.specs.Summing.{SumsInput}
+use Rattle.vme_summary.specs.Summing.{SumsInput}
 use Rattle.vme_program.proofs.Handing.{on_trace}
 use Rattle.vme_program.proofs.jobs.run_summary.Goals as goal
 
