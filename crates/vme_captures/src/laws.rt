@@ -23,12 +23,14 @@ pub fn line_spells_one_thing()
 
 /// A possible capture stays possible without one of its pins, with all that it says of that pin.
 /// No other pin of it is on the same wire, as in every capture that is read without a fault.
+#[tactic(auto, using(crate::proofs::Less::without_a_pin))]
 pub fn possible_without_a_pin()
     ensures { (p : Plan) (c : Capture) (q : Pin) → has_own_wire p c.pins q ≡ true
         → IsPossible p c → IsPossible p (without_pin q c) }
 {}
 
 /// A possible capture stays possible without the status byte of a change.
+#[tactic(auto, using(crate::proofs::Less::without_a_byte))]
 pub fn possible_without_a_byte()
     ensures { (p : Plan) (c : Capture) (later earlier : List Change) (v : Change)
         → IsPossible p (record c { changes = later ++ v ∷ earlier })
@@ -36,6 +38,7 @@ pub fn possible_without_a_byte()
 {}
 
 /// A possible capture stays possible without the slot of an access: `AS- rT` becomes `AS- r`.
+#[tactic(auto, using(crate::proofs::Less::without_a_slot))]
 pub fn possible_without_a_slot()
     ensures { (p : Plan) (c : Capture) (later earlier : List Change) (v : Change)
         → IsPossible p (record c { changes = later ++ v ∷ earlier })
