@@ -20,10 +20,12 @@ use Rattle.vme_bus.specs.Sets.{has}
 use Rattle.vme_captures.specs.declared.signals.Change.{Change}
 use Rattle.vme_captures.specs.declared.signals.Line.{Line}
 use Rattle.vme_captures.specs.declared.signals.Line.TheVariants as line
+use Rattle.vme_captures.specs.declared.signals.Signal.{Signal}
 use Rattle.vme_captures.specs.declared.signals.Signal.TheVariants as signal
 use Rattle.vme_captures.specs.declared.signals.Value.{Value}
 use Rattle.vme_captures.specs.declared.signals.Value.TheVariants as value
 use Rattle.vme_captures.specs.Signals.{has_value, is_change, is_signal}
+use Rattle.vme_standings.specs.declared.cuts.PhaseFact.TheVariants.{HeldBy}
 use Rattle.vme_standings.specs.declared.interrupters.Interrupters.{Interrupters}
 use Rattle.vme_standings.specs.declared.interrupters.Interrupters.TheVariants.{All, OnLevel, WithStatus}
 use Rattle.vme_standings.specs.declared.requests.Request.{Request}
@@ -48,11 +50,11 @@ use Rattle.vme_standings.proofs.Tests.{both, is_false, never}
 use Rattle.vme_probe.specs.declared.demands.Demand.{Demand}
 use Rattle.vme_probe.specs.declared.demands.RequestTest.TheVariants.{Pending}
 use Rattle.vme_probe.specs.declared.demands.Test.TheVariants.{Requests as OfRequests}
-use Rattle.vme_probe.specs.declared.obstacles.Obstacle.TheVariants.{Fails}
-use Rattle.vme_model.specs.declared.conditions.Condition.TheVariants.{AcknowledgeInLow}
-use Rattle.vme_model.specs.declared.sentences.Rule.TheVariants.{G7, G25}
+use Rattle.vme_probe.specs.declared.obstacles.Obstacle.TheVariants.{Fails, NotPending}
+use Rattle.vme_model.specs.declared.conditions.Condition.TheVariants.{AcknowledgeInLow, OwnBusyLow}
+use Rattle.vme_model.specs.declared.sentences.Rule.TheVariants.{G7, G15, G25}
 use Rattle.vme_probe.specs.Conditions.{access_answered, acknowledge_answered, address_falls, answer_falls, dtack_high, is_chain_high, line_falls, nobody_answers as silence, strobe_low}
-use Rattle.vme_probe.specs.Demands.{first_failing, interrupter_at, is_left, is_pending, is_request_allowed, places, when_known}
+use Rattle.vme_probe.specs.Demands.{first_failing, interrupter_at, is_left, is_pending, is_request_allowed, on_chain, on_grants, on_requests, places, when_known}
 use Rattle.vme_probe.specs.Hindered.{AreOthersHindered, FitsTogether, is_of_a_cycle}
 use Rattle.vme_probe.proofs.Leaving.{each_place, end_left, ends_at_input, ends_before, last_is_upstream, named_if, near_slot, one_left, phase_left, reaches, request_of_level}
 
@@ -87,6 +89,16 @@ at_place (Some t) = refl
 denied : (b : Bool) → not b ≡ true → b ≡ false
 denied true h = absurd (never false h refl)
 denied false h = refl
+
+-- the first condition of a fall of AS*
+abbrev held_first : ℕ → List Demand
+held_first s = on_grants (Fails G15 OwnBusyLow) (HeldBy s) ∷ []
+
+-- the first conditions of an answer of an acknowledge, up to that on the requests
+abbrev up_to_pending : Plan → Standings → ℕ → ℕ → InterrupterRow → List Demand
+up_to_pending p st s n i =
+    strobe_low G25 st ∷ on_chain (Fails G25 AcknowledgeInLow) (input_place p s) true ∷ when_known (NotPending n) (i.level == n)
+    ∷ on_requests (NotPending n) Pending ∷ []
 
 module _ (p : Plan) (ok : IsAccepted p) (version : Version) (st : Standings) (fits : FitsTogether p st) where
   -- all probed segments of the acknowledge chain are high
@@ -136,19 +148,19 @@ module _ (p : Plan) (ok : IsAccepted p) (version : Version) (st : Standings) (fi
       let a = one_left (is_left p st s) [] _ _ none in
       let b = one_left (is_left p st s) _ _ _ a.1 in
       let c = one_left (is_left p st s) _ _ _ b.1 in
-      let f = phase_left p st.phases _ a.0 in
+      let f = phase_left p st.phases (held_first s) a.0 in
       never (has boards s) (shower boards _ who s (near_slot p ok s (λ r. true) (stands_there s has_it)).1 (chain_high c.0) b.0 f.phase f.has
           (and_parts (is_held_by (λ b. b == s) f.phase) true f.allowed).0) lacks)
   address_fall (Some (value.Shown (cycle.Access t))) seen boards who s has_it lacks = named_if _ (λ none.
       let a = one_left (is_left p st s) [] _ _ none in
       let b = one_left (is_left p st s) _ _ _ a.1 in
-      let f = phase_left p st.phases _ a.0 in
+      let f = phase_left p st.phases (held_first s) a.0 in
       never (has boards s) (shower boards _ who s (near_slot p ok s (λ r. true) (stands_there s has_it)).1 (chain_high b.0) (stands_there s has_it) f.phase f.has
           (and_parts (is_held_by (λ b. b == s) f.phase) true f.allowed).0) lacks)
   address_fall (Some value.Access) seen boards who s has_it lacks = named_if _ (λ none.
       let a = one_left (is_left p st s) [] _ _ none in
       let b = one_left (is_left p st s) _ _ _ a.1 in
-      let f = phase_left p st.phases _ a.0 in
+      let f = phase_left p st.phases (held_first s) a.0 in
       never (has boards s) (shower boards _ who s (near_slot p ok s (λ r. true) (stands_there s has_it)).1 (chain_high b.0) refl f.phase f.has
           (and_parts (is_held_by (λ b. b == s) f.phase) true f.allowed).0) lacks)
 
@@ -222,12 +234,12 @@ module _ (p : Plan) (ok : IsAccepted p) (version : Version) (st : Standings) (fi
       let c = one_left (is_left p st s) _ _ _ b.1 in
       let d = one_left (is_left p st s) _ _ _ c.1 in
       let e = one_left (is_left p st s) _ _ _ d.1 in
-      let f = end_left st.fronts _ refl e.0 in
+      let f = end_left st.fronts (acknowledge_answered p st s n None (Some i)) refl e.0 in
       let k = and_parts (are_alike (nat_le (input_place p s) f.end) true) (are_alike (nat_le s f.end) false && true) f.allowed in
       let l = and_parts (are_alike (nat_le s f.end) false) true k.1 in
       never (has boards s) (answers n s None i boards who stands found a.0 c.0
           (ends_at_input p ok st.fronts fits.ends s f.end (reaches (input_place p s) f.end k.0) (ends_before s f.end l.0) f.has)
-          (pending_of n s i _ stands found c.0 (λ r h. pending_alone (s == s) r (same_slot s) h) d.0)
+          (pending_of n s i (up_to_pending p st s n i) stands found c.0 (λ r h. pending_alone (s == s) r (same_slot s) h) d.0)
           (meant (OnLevel n) s i found c.0)) lacks)
   answer_with n s (Some (value.Status b)) seen boards who stands lacks (Some i) found = named_if _ (λ none.
       let a = one_left (is_left p st s) [] _ _ none in
@@ -236,12 +248,12 @@ module _ (p : Plan) (ok : IsAccepted p) (version : Version) (st : Standings) (fi
       let d = one_left (is_left p st s) _ _ _ c.1 in
       let y = one_left (is_left p st s) _ _ _ d.1 in
       let e = one_left (is_left p st s) _ _ _ y.1 in
-      let f = end_left st.fronts _ refl e.0 in
+      let f = end_left st.fronts (acknowledge_answered p st s n (Some (value.Status b)) (Some i)) refl e.0 in
       let k = and_parts (are_alike (nat_le (input_place p s) f.end) true) (are_alike (nat_le s f.end) false && true) f.allowed in
       let l = and_parts (are_alike (nat_le s f.end) false) true k.1 in
       never (has boards s) (answers n s (Some (value.Status b)) i boards who stands found a.0 c.0
           (ends_at_input p ok st.fronts fits.ends s f.end (reaches (input_place p s) f.end k.0) (ends_before s f.end l.0) f.has)
-          (pending_of n s i _ stands found c.0 (λ r h. pending_alone (s == s) r (same_slot s) h) d.0)
+          (pending_of n s i (up_to_pending p st s n i) stands found c.0 (λ r h. pending_alone (s == s) r (same_slot s) h) d.0)
           (both _ _ (meant (OnLevel n) s i found c.0) (meant (WithStatus b) s i found y.0))) lacks)
   answer_with n s (Some (value.Shown v)) seen boards who stands lacks (Some i) found = absurd (never false seen refl)
   answer_with n s (Some value.Access) seen boards who stands lacks (Some i) found = absurd (never false seen refl)
@@ -287,7 +299,7 @@ module _ (p : Plan) (ok : IsAccepted p) (version : Version) (st : Standings) (fi
       nobody (Some (shown.Access None)) h = h
       nobody (Some (shown.Access (Some t))) h = h
       nobody (Some (shown.Acknowledge n)) h =
-          let f = end_left st.fronts _ refl h in
+          let f = end_left st.fronts (strobe_low G7 st ∷ dtack_high G7 st ∷ silence p (Some (shown.Acknowledge n)) ∷ []) refl h in
           let k = and_parts (are_alike (nat_le (unwrap_or (last_active p chain.Iack) 0) f.end) true) true f.allowed in
           ends_at_input p ok st.fronts fits.ends 22 f.end
           (subst (λ q. q ≤ f.end) (at_place (last_active p chain.Iack) ∙ ap place_of (last_is_upstream p ok chain.Iack)) (reaches (unwrap_or (last_active p chain.Iack) 0) f.end k.0))
@@ -295,7 +307,7 @@ module _ (p : Plan) (ok : IsAccepted p) (version : Version) (st : Standings) (fi
 
   -- ---- all of them
 
-  board_fall : (l : Line) (x : Option Value) → is_of_a_cycle l ≡ true → has_value (signal.Line l) true x ≡ true → (boards : SlotSet) → BoardsPull p st l x boards → (s : ℕ) → drives p (moved.Line l) s ≡ true → has boards s ≡ false
+  board_fall : (l : Line) (x : Option Value) → is_of_a_cycle (signal.Line l) ≡ true → has_value (signal.Line l) true x ≡ true → (boards : SlotSet) → BoardsPull p st l x boards → (s : ℕ) → drives p (moved.Line l) s ≡ true → has boards s ≡ false
       → is_some (first_failing (is_left p st s) [] (line_falls p st s l x)) ≡ true
   board_fall line.AddressStrobe x in_cycle seen boards who s has_it lacks = address_fall x seen boards who s has_it lacks
   board_fall line.DataStrobe x in_cycle seen boards who s has_it lacks = data_fall boards who s lacks
@@ -303,17 +315,25 @@ module _ (p : Plan) (ok : IsAccepted p) (version : Version) (st : Standings) (fi
   board_fall line.Berr x in_cycle seen boards who s has_it lacks = absurd (never false has_it refl)
   board_fall _ x in_cycle seen boards who s has_it lacks = absurd (never false in_cycle refl)
 
-  controller_fall : (l : Line) (x : Option Value) → is_of_a_cycle l ≡ true → (may : Bool) → ControllerMakes p version st (moved.Line l) true may → controller_drives (moved.Line l) ≡ true → may ≡ false
+  controller_fall : (l : Line) (x : Option Value) → is_of_a_cycle (signal.Line l) ≡ true → (may : Bool) → ControllerMakes p version st (moved.Line l) true may → controller_drives (moved.Line l) ≡ true → may ≡ false
       → is_some (first_failing (is_left p st 0) [] (line_falls p st 0 l x)) ≡ true
   controller_fall line.Berr x in_cycle may who has_it lacks = error_fall may st.shown who lacks
   controller_fall line.Bclr x in_cycle may who has_it lacks = absurd (never false in_cycle refl)
   controller_fall _ x in_cycle may who has_it lacks = absurd (never false has_it refl)
 
-pub cycles_hindered : (p : Plan) (probed : Probed) (st : Standings) (c : Change) (may : Drivers) (l : Line) → IsAccepted p → FitsTogether p st → AreDrivers p probed st c may
-    → is_change c ≡ true → c.fall ≡ true → c.signal ≡ signal.Line l → is_of_a_cycle l ≡ true → AreOthersHindered p probed.version st c may
-cycles_hindered p probed st c may l ok fits who seen fall on in_cycle =
+line_fall : (p : Plan) (probed : Probed) (st : Standings) (c : Change) (may : Drivers) (l : Line) → IsAccepted p → AreDrivers p probed st c may → FitsTogether p st
+    → is_change c ≡ true → c.fall ≡ true → c.signal ≡ signal.Line l → is_of_a_cycle (signal.Line l) ≡ true → AreOthersHindered p probed.version st c may
+line_fall p probed st c may l ok who fits seen fall on in_cycle =
     let value = (and_parts (is_signal c.signal) (has_value c.signal c.fall c.value) seen).1 in
     record {
       controller = λ has_it lacks. rw (on, fall) (controller_fall p ok probed.version st fits l c.value in_cycle may.controller (rw (on, fall) at who.controller) (rw on at has_it) lacks);
       boards = λ s has_it lacks. rw (on, fall) (board_fall p ok probed.version st fits l c.value in_cycle (rw (on, fall) at value) may.boards (rw (on, fall) at who.boards) s (rw on at has_it) lacks);
     }
+
+pub cycles_hindered : (p : Plan) (probed : Probed) (st : Standings) (c : Change) (may : Drivers) → IsAccepted p → AreDrivers p probed st c may → FitsTogether p st
+    → is_change c ≡ true → c.fall ≡ true → is_of_a_cycle c.signal ≡ true → AreOthersHindered p probed.version st c may
+cycles_hindered p probed st c may ok who fits seen fall in_cycle = by_signal c.signal refl in_cycle
+  where
+    by_signal : (x : Signal) → c.signal ≡ x → is_of_a_cycle x ≡ true → AreOthersHindered p probed.version st c may
+    by_signal (signal.Pin q) on is = absurd (never false is refl)
+    by_signal (signal.Line l) on is = line_fall p probed st c may l ok who fits seen fall on is

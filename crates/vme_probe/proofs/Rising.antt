@@ -5,6 +5,8 @@ use Rattle.std.proofs.lemmas.Bool.{and_parts, cases_Bool}
 use Rattle.std.specs.Prelude.{nat_lt, nat_le, ◌==◌, ◌<◌, ◌⊎◌}
 use Rattle.std.specs.List.{list_all, list_any}
 use Rattle.vme_model.specs.declared.boards.InterrupterRow.{InterrupterRow}
+use Rattle.vme_model.specs.declared.conditions.Condition.TheVariants.{OwnBusyLow}
+use Rattle.vme_model.specs.declared.sentences.Rule.TheVariants.{G10}
 use Rattle.vme_model.specs.declared.signals.Driver.TheVariants.{Controller, Slot}
 use Rattle.vme_model.specs.declared.signals.Version.{Version}
 use Rattle.vme_model.specs.Accepted.{IsAccepted}
@@ -16,6 +18,7 @@ use Rattle.vme_bus.specs.Sets.{has}
 use Rattle.vme_captures.specs.declared.signals.Change.{Change}
 use Rattle.vme_captures.specs.declared.signals.Line.{Line}
 use Rattle.vme_captures.specs.declared.signals.Line.TheVariants as line
+use Rattle.vme_captures.specs.declared.signals.Signal.{Signal}
 use Rattle.vme_captures.specs.declared.signals.Signal.TheVariants as signal
 use Rattle.vme_standings.specs.declared.cuts.PhaseFact.TheVariants.{HeldBy}
 use Rattle.vme_standings.specs.declared.interrupters.Interrupters.TheVariants.{OnLevel}
@@ -41,9 +44,10 @@ use Rattle.vme_standings.specs.Requests.{AreOnLevel, is_on_level}
 use Rattle.vme_standings.specs.Standings.{controller_drives, drives}
 use Rattle.vme_standings.proofs.Tests.{both, is_false, never}
 use Rattle.vme_probe.specs.declared.demands.Demand.{Demand}
-use Rattle.vme_probe.specs.Conditions.{interrupt_rises, line_rises, request_rises}
-use Rattle.vme_probe.specs.Demands.{are_grants_left, are_requests_left, can_pull, can_stand, first_failing, interrupter_at, is_any_left, is_left, is_phase_allowed, is_pending, is_pull_left, is_request_allowed, is_request_left, is_served, places, pulls}
-use Rattle.vme_probe.specs.Hindered.{AreOthersHindered}
+use Rattle.vme_probe.specs.declared.obstacles.Obstacle.TheVariants.{Fails}
+use Rattle.vme_probe.specs.Conditions.{clear_rises, interrupt_rises, line_rises, request_rises}
+use Rattle.vme_probe.specs.Demands.{are_grants_left, are_requests_left, can_pull, can_stand, first_failing, interrupter_at, is_any_left, is_left, is_phase_allowed, is_pending, is_pull_left, is_request_allowed, is_request_left, is_served, on_grants, places, pulls}
+use Rattle.vme_probe.specs.Hindered.{AreOthersHindered, is_line_but_busy}
 use Rattle.vme_probe.proofs.Leaving.{interrupter_of, named_if, near_slot, one_left, phase_left, request_of_level}
 
 module _ (p : Plan) (ok : IsAccepted p) (version : Version) (st : Standings) where
@@ -64,7 +68,7 @@ module _ (p : Plan) (ok : IsAccepted p) (version : Version) (st : Standings) whe
         | inl two ↦ absurd (never (has boards s) (who.two two s ∙ on) lacks)
         | inr one ↦ named_if _ (λ none.
             let k = one_left (is_left p st s) [] _ _ (rw one at none) in
-            let f = phase_left p st.phases _ k.0 in
+            let f = phase_left p st.phases (on_grants (Fails G10 OwnBusyLow) (HeldBy s) ∷ []) k.0 in
             never (has boards s) (held_at boards n s who one (near_slot p ok s (requests_on n) on).1 on f.phase f.has (and_parts (is_held_by (λ b. b == s) f.phase) true f.allowed).0) lacks)
       ]
 
@@ -108,7 +112,7 @@ module _ (p : Plan) (ok : IsAccepted p) (version : Version) (st : Standings) whe
       → is_some (first_failing (is_left p st 0) [] (line_rises p version st 0 line.Bclr)) ≡ true
   clear_rise may who lacks = named_if _ (λ none.
       let a = one_left (is_left p st 0) [] _ _ none in
-      let f = phase_left p st.phases _ a.0 in
+      let f = phase_left p st.phases (clear_rises st) a.0 in
       never may (who.all f.phase f.near f.has (not_due (is_clear_due p (asked st.lines) f.phase) (and_parts (not (is_clear_due p (asked st.lines) f.phase)) true f.allowed).0)) lacks)
 
   -- ---- IRQn*
@@ -178,9 +182,18 @@ module _ (p : Plan) (ok : IsAccepted p) (version : Version) (st : Standings) whe
   controller_rise line.Bclr may who has_it lacks = clear_rise may who lacks
   controller_rise _ may who has_it lacks = absurd (never false has_it refl)
 
-pub rises_hindered : (p : Plan) (probed : Probed) (st : Standings) (c : Change) (may : Drivers) (l : Line) → IsAccepted p → AreDrivers p probed st c may
+-- the line of the change
+line_rise : (p : Plan) (probed : Probed) (st : Standings) (c : Change) (may : Drivers) (l : Line) → IsAccepted p → AreDrivers p probed st c may
     → c.signal ≡ signal.Line l → c.fall ≡ false → l ≢ line.Bbsy → AreOthersHindered p probed.version st c may
-rises_hindered p probed st c may l ok who on rise other = record {
+line_rise p probed st c may l ok who on rise other = record {
   controller = λ has_it lacks. rw (on, rise) (controller_rise p ok probed.version st l may.controller (rw (on, rise) at who.controller) (rw on at has_it) lacks);
   boards = λ s has_it lacks. rw (on, rise) (board_rise p ok probed.version st l other may.boards (rw (on, rise) at who.boards) s (rw on at has_it) lacks);
 }
+
+pub rises_hindered : (p : Plan) (probed : Probed) (st : Standings) (c : Change) (may : Drivers) → IsAccepted p → AreDrivers p probed st c may
+    → c.fall ≡ false → is_line_but_busy c.signal ≡ true → AreOthersHindered p probed.version st c may
+rises_hindered p probed st c may ok who rise is_line = by_signal c.signal refl is_line
+  where
+    by_signal : (x : Signal) → c.signal ≡ x → is_line_but_busy x ≡ true → AreOthersHindered p probed.version st c may
+    by_signal (signal.Pin q) on is = absurd (never false is refl)
+    by_signal (signal.Line l) on is = line_rise p probed st c may l ok who on rise (λ e. never false (subst (λ k. is_line_but_busy (signal.Line k) ≡ true) e is) refl)

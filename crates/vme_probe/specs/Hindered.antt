@@ -9,7 +9,8 @@ use Rattle.vme_bus.specs.Sets.{has}
 use Rattle.vme_captures.specs.declared.signals.Change.{Change}
 use Rattle.vme_standings.specs.declared.standings.Drivers.{Drivers}
 use Rattle.vme_standings.specs.declared.standings.Standings.{Standings}
-use Rattle.vme_captures.specs.declared.signals.Line.{Line}
+use Rattle.vme_captures.specs.declared.signals.Signal.{Signal}
+use Rattle.vme_captures.specs.declared.signals.Signal.TheVariants as signal
 use Rattle.vme_captures.specs.declared.signals.Line.TheVariants as line
 use Rattle.vme_standings.specs.Driving.{is_left_low}
 use Rattle.vme_standings.specs.Requests.{is_interrupter}
@@ -38,10 +39,22 @@ pub record FitsTogether (p : Plan) (st : Standings) : Type 0 where
   pub ends : (s : ℕ) → has st.fronts.ends s ≡ true → 0 < s → is_interrupter p s ≡ true
   pub segments : (s : ℕ) → has st.low.acknowledge s ≡ true → s < 22
 
--- the line is one of AS*, DS*, DTACK* and BERR*
-abbrev pub is_of_a_cycle : Line → Bool
-is_of_a_cycle line.AddressStrobe = true
-is_of_a_cycle line.DataStrobe = true
-is_of_a_cycle line.Dtack = true
-is_of_a_cycle line.Berr = true
+-- a shared line, other than BBSY*
+abbrev pub is_line_but_busy : Signal → Bool
+is_line_but_busy (signal.Line line.Bbsy) = false
+is_line_but_busy (signal.Line l) = true
+is_line_but_busy (signal.Pin q) = false
+
+-- BRn*, or IRQn*
+abbrev pub is_of_requests : Signal → Bool
+is_of_requests (signal.Line (line.Br n)) = true
+is_of_requests (signal.Line (line.Irq n)) = true
+is_of_requests _ = false
+
+-- AS*, DS*, DTACK* or BERR*
+abbrev pub is_of_a_cycle : Signal → Bool
+is_of_a_cycle (signal.Line line.AddressStrobe) = true
+is_of_a_cycle (signal.Line line.DataStrobe) = true
+is_of_a_cycle (signal.Line line.Dtack) = true
+is_of_a_cycle (signal.Line line.Berr) = true
 is_of_a_cycle _ = false
