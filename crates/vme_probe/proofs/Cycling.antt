@@ -238,7 +238,7 @@ module _ (p : Plan) (ok : IsAccepted p) (version : Version) (st : Standings) (fi
       let k = and_parts (are_alike (nat_le (input_place p s) f.end) true) (are_alike (nat_le s f.end) false && true) f.allowed in
       let l = and_parts (are_alike (nat_le s f.end) false) true k.1 in
       never (has boards s) (answers n s None i boards who stands found a.0 c.0
-          (ends_at_input p ok st.fronts fits.ends s f.end (reaches (input_place p s) f.end k.0) (ends_before s f.end l.0) f.has)
+          (ends_at_input p ok st.fronts fits.ends s f.end f.near (reaches (input_place p s) f.end k.0) (ends_before s f.end l.0) f.has)
           (pending_of n s i (up_to_pending p st s n i) stands found c.0 (λ r h. pending_alone (s == s) r (same_slot s) h) d.0)
           (meant (OnLevel n) s i found c.0)) lacks)
   answer_with n s (Some (value.Status b)) seen boards who stands lacks (Some i) found = named_if _ (λ none.
@@ -252,7 +252,7 @@ module _ (p : Plan) (ok : IsAccepted p) (version : Version) (st : Standings) (fi
       let k = and_parts (are_alike (nat_le (input_place p s) f.end) true) (are_alike (nat_le s f.end) false && true) f.allowed in
       let l = and_parts (are_alike (nat_le s f.end) false) true k.1 in
       never (has boards s) (answers n s (Some (value.Status b)) i boards who stands found a.0 c.0
-          (ends_at_input p ok st.fronts fits.ends s f.end (reaches (input_place p s) f.end k.0) (ends_before s f.end l.0) f.has)
+          (ends_at_input p ok st.fronts fits.ends s f.end f.near (reaches (input_place p s) f.end k.0) (ends_before s f.end l.0) f.has)
           (pending_of n s i (up_to_pending p st s n i) stands found c.0 (λ r h. pending_alone (s == s) r (same_slot s) h) d.0)
           (both _ _ (meant (OnLevel n) s i found c.0) (meant (WithStatus b) s i found y.0))) lacks)
   answer_with n s (Some (value.Shown v)) seen boards who stands lacks (Some i) found = absurd (never false seen refl)
@@ -301,7 +301,7 @@ module _ (p : Plan) (ok : IsAccepted p) (version : Version) (st : Standings) (fi
       nobody (Some (shown.Acknowledge n)) h =
           let f = end_left st.fronts (strobe_low G7 st ∷ dtack_high G7 st ∷ silence p (Some (shown.Acknowledge n)) ∷ []) refl h in
           let k = and_parts (are_alike (nat_le (unwrap_or (last_active p chain.Iack) 0) f.end) true) true f.allowed in
-          ends_at_input p ok st.fronts fits.ends 22 f.end
+          ends_at_input p ok st.fronts fits.ends 22 f.end f.near
           (subst (λ q. q ≤ f.end) (at_place (last_active p chain.Iack) ∙ ap place_of (last_is_upstream p ok chain.Iack)) (reaches (unwrap_or (last_active p chain.Iack) 0) f.end k.0))
           f.near f.has
 

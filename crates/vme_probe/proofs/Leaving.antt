@@ -17,9 +17,9 @@ use Rattle.vme_model.specs.Rules.{bus_numbers}
 use Rattle.vme_model.proofs.Below.{IsBelow}
 use Rattle.vme_model.proofs.Bools.{same_number}
 use Rattle.vme_model.proofs.Cycles.{chain_below, interrupts}
-use Rattle.vme_model.proofs.Ranges.{in_range}
+use Rattle.vme_model.proofs.Members.{found_row}
+use Rattle.vme_model.proofs.Ranges.{IsRowInRange, in_range}
 use Rattle.vme_bus.specs.Sets.{has}
-use Rattle.vme_histories.proofs.AllowedBoards.{stands}
 use Rattle.vme_captures.proofs.BelowSlots.{some_below}
 use Rattle.vme_standings.specs.declared.phases.GrantPhase.{GrantPhase}
 use Rattle.vme_standings.specs.declared.phases.GrantPhase.TheVariants.{Idle, Granting, Held, Expired}
@@ -34,6 +34,7 @@ use Rattle.vme_standings.specs.Grants.{are_alike}
 use Rattle.vme_standings.specs.Interrupters.{is_meant_at}
 use Rattle.vme_standings.specs.Phases.{has_phase, is_in_table}
 use Rattle.vme_standings.specs.RequestSets.{may_be}
+use Rattle.vme_standings.specs.Slots.{EachSlot}
 use Rattle.vme_standings.specs.Requests.{is_interrupter, is_on_level}
 use Rattle.vme_standings.proofs.Tests.{both, never}
 use Rattle.vme_probe.specs.declared.demands.Demand.{Demand}
@@ -159,7 +160,14 @@ near_slot p ok s f on = of_board (board p s) refl
   where
     of_board : (o : Option Row) → board p s ≡ o → (0 < s) × (s < 22)
     of_board None e = absurd (never false (subst (λ o. option_map_or f o false ≡ true) e on) refl)
-    of_board (Some r) e = let k = stands p s r ok e in (omega (arith, k.from_one), k.near)
+    of_board (Some r) e =
+        let range = in_range p ok in
+        let most = range.most in
+        let f = found_row (IsRowInRange p) p.rows s r range.rows e in
+        let same = f.slot in
+        let from = f.fact.from_one in
+        let to = f.fact.to_last in
+        (omega (arith, same, from), omega (arith, same, to, most))
 
 -- ---- the interrupt requests
 
@@ -241,9 +249,9 @@ pub last_is_upstream : (p : Plan) → IsAccepted p → (c : ChainId) → last_ac
 last_is_upstream p ok c = last_below (is_active p.rows c) p.slots (let most = (in_range p ok).most in omega (arith, most))
 
 -- Low segments that end before a board, and not before its input, end there.
-pub ends_at_input : (p : Plan) → IsAccepted p → (f : Fronts) → ((t : ℕ) → has f.ends t ≡ true → 0 < t → is_interrupter p t ≡ true)
-    → (s end : ℕ) → place_of (upstream p Iack s) ≤ end → end < s → has f.ends end ≡ true → has f.ends (place_of (upstream p Iack s)) ≡ true
-ends_at_input p ok f ends s end from to there = at (upstream p Iack s) (chain_below p (in_range p ok) s) from
+pub ends_at_input : (p : Plan) → IsAccepted p → (f : Fronts) → EachSlot (λ t. has f.ends t ≡ true → is_interrupter p t ≡ true)
+    → (s end : ℕ) → end < 22 → place_of (upstream p Iack s) ≤ end → end < s → has f.ends end ≡ true → has f.ends (place_of (upstream p Iack s)) ≡ true
+ends_at_input p ok f ends s end near from to there = at (upstream p Iack s) (chain_below p (in_range p ok) s) from
   where
     at : (o : Option ℕ) → IsBelow (interrupts p) s o → place_of o ≤ end → has f.ends (place_of o) ≡ true
     at None none low =
@@ -251,11 +259,11 @@ ends_at_input p ok f ends s end from to there = at (upstream p Iack s) (chain_be
       where
         first : (e : ℕ) → end ≡ e → end ≡ 0
         first zero is = is
-        first (suc e) is = absurd (none end (ends end there (omega (arith, is))) to)
+        first (suc e) is = absurd (none end (ends end (omega (arith, is)) near there) to)
     at (Some u) great low = first end refl
       where
         first : (e : ℕ) → end ≡ e → has f.ends u ≡ true
         first zero is = subst (λ e. has f.ends e ≡ true) (omega (arith, is, low)) there
         first (suc e) is =
-            let most = great.greatest end (ends end there (omega (arith, is))) to in
+            let most = great.greatest end (ends end (omega (arith, is)) near there) to in
             subst (λ e. has f.ends e ≡ true) (omega (arith, most, low)) there

@@ -14,6 +14,7 @@ use Rattle.vme_captures.specs.declared.signals.Signal.TheVariants as signal
 use Rattle.vme_captures.specs.declared.signals.Line.TheVariants as line
 use Rattle.vme_standings.specs.Driving.{is_left_low}
 use Rattle.vme_standings.specs.Requests.{is_interrupter}
+use Rattle.vme_standings.specs.Slots.{EachSlot}
 use Rattle.vme_standings.specs.Moving.{moved_by}
 use Rattle.vme_standings.specs.Standings.{controller_drives, drives}
 use Rattle.vme_probe.specs.Conditions.{obstacle}
@@ -36,7 +37,7 @@ pub record AreOthersHindered (p : Plan) (version : Version) (st : Standings) (c 
 pub record FitsTogether (p : Plan) (st : Standings) : Type 0 where
   pub strobed : is_left_low st line.DataStrobe ≡ true → is_some st.shown ≡ true
   pub addressed : (s : ℕ) → has st.addressers s ≡ true → is_some st.shown ≡ true
-  pub ends : (s : ℕ) → has st.fronts.ends s ≡ true → 0 < s → is_interrupter p s ≡ true
+  pub ends : EachSlot (λ s. has st.fronts.ends s ≡ true → is_interrupter p s ≡ true)
   pub segments : (s : ℕ) → has st.low.acknowledge s ≡ true → s < 22
 
 -- a shared line, other than BBSY*
