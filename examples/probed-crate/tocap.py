@@ -9,6 +9,7 @@ below to your analyser and to your crate: COLUMNS, TIME, STEP and SLAVES.
 """
 
 import csv
+import re
 import sys
 from decimal import Decimal
 
@@ -30,17 +31,62 @@ REQUESTS = [f"BR{level}" for level in range(4)] + [f"IRQ{level}" for level in ra
 OTHERS = ["BBSY", "BCLR", "AS", "DS", "DTACK", "BERR"]
 DATA_STROBES = ["DS0", "DS1"]
 
+# What the column of a clipped channel is called.
+PIN = re.compile(r"([1-9]|1[0-9]|2[01]) (BG[0-3]|IACK)(IN|OUT)")
 
-def read(file, pins):
-    """The rows of the CSV, under the names of this script."""
+
+class Row(dict):
+    """A row of the CSV under the names of this script, and its number in the file, from 1."""
+
+    def __init__(self, number, head, cells):
+        if len(cells) != len(head):
+            sys.exit(f"row {number}: {len(cells)} columns, and not {len(head)} as in the first row")
+        super().__init__(zip(head, map(str.strip, cells)))
+        self.number = number
+
+    def value(self, column, kind, of):
+        """What `of` makes of a column, which has to hold such a number."""
+        try:
+            return of(self[column])
+        except (ValueError, ArithmeticError):
+            sys.exit(f"row {self.number}: {column} is '{self[column]}', and no {kind}")
+
+    def time(self):
+        return self.value(TIME, "time", time_of)
+
+    def bits(self, column):
+        return self.value(column, "hexadecimal number", lambda text: int(text, 16))
+
+
+def time_of(text):
+    """A time, which is not too far away for a capture."""
+    time = Decimal(text)
+    if not abs(time) / STEP < 2**64:
+        raise ValueError
+    return time
+
+
+def head_of(columns, pins):
+    """The columns under the names of this script, none of which may be missing."""
+    if not columns:
+        sys.exit("row 1: it is empty, and should name the columns")
     names = {column: name for name, column in COLUMNS.items()}
-    reader = csv.reader(file)
-    head = [names.get(column.strip(), column.strip()) for column in next(reader, [])]
+    head = [names.get(column.strip(), column.strip()) for column in columns]
     signals = {*REQUESTS, *OTHERS, *DATA_STROBES, *pins, "IACK", "A", "D"} - {"DS"}
     missing = sorted({TIME, *signals} - {*head})
     if missing:
-        sys.exit(f"no column {', '.join(missing)}: adapt COLUMNS, TIME or the pins")
-    return [dict(zip(head, map(str.strip, row))) for row in reader if row]
+        sys.exit(f"row 1: no column {', '.join(missing)}: adapt COLUMNS, TIME or the pins")
+    return head
+
+
+def read(file, pins):
+    """The rows of the CSV."""
+    reader = csv.reader(file)
+    try:
+        head = head_of(next(reader, []), pins)
+        return [Row(reader.line_num, head, cells) for cells in reader if cells]
+    except (csv.Error, UnicodeDecodeError) as why:
+        sys.exit(f"row {reader.line_num + 1}: it cannot be read: {why}")
 
 
 def lines_of(rows, pins):
@@ -54,7 +100,7 @@ def lines_of(rows, pins):
 
 def shown_by(row):
     """An acknowledge of a level, or an access to a slot; `r` if no slave has the address."""
-    address = int(row["A"], 16)
+    address = row.bits("A")
     if row["IACK"] == "0":
         return f"i{address >> 1 & 7}"
     return next((f"r{slot}" for first, last, slot in SLAVES if first <= address <= last), "r")
@@ -65,14 +111,14 @@ def next_low(line, first):
     return next((row for row in range(first, len(line)) if line[row]), len(line))
 
 
-def end_of(low, begin):
+def end_of(rows, low, begin):
     """The row in which AS* and DS* are high again. AS* may rise before DS*, and stays high then."""
-    for row in range(begin, len(low["AS"])):
+    for row in range(begin, len(rows)):
         if not low["AS"][row] and not low["DS"][row]:
             return row
         if row > begin and low["AS"][row] and not low["AS"][row - 1]:
-            sys.exit(f"row {row + 2}: AS* falls again before DS* is high")
-    return len(low["AS"])
+            sys.exit(f"row {rows[row].number}: AS* falls again before DS* is high")
+    return len(rows)
 
 
 def join(line, begin, end):
@@ -114,7 +160,7 @@ def tidy_all(rows, low, first):
     begin = next_low(low["AS"], first)
     drop_early_strobe(low["DS"], first, begin)
     while begin < len(rows):
-        end = end_of(low, begin)
+        end = end_of(rows, low, begin)
         after = next_low(low["AS"], end)
         if end < len(rows) and not any(low["DS"][begin:end]):
             low["AS"][begin:end] = [False] * (end - begin)
@@ -128,7 +174,7 @@ def tidy_all(rows, low, first):
     return shown, left_out
 
 
-def changes_in(row, low, shown, data):
+def changes_in(rows, row, low, shown):
     """The changes of a row, a cause before its effect; the rise of AS* ends a cycle."""
     moved = [name for name, line in low.items() if line[row] != line[row - 1]]
     for name in sorted(moved, key=lambda it: it == "AS" and not low["AS"][row]):
@@ -137,14 +183,18 @@ def changes_in(row, low, shown, data):
         elif name == "AS":
             yield f"AS- {shown[row]}"
         elif name == "DTACK" and shown.get(row, "r")[0] == "i":
-            yield f"DTACK- {int(data, 16) & 255}"
+            yield f"DTACK- {rows[row].bits('D') & 255}"
         else:
             yield f"{name}-"
 
 
 def main():
     pins = sys.argv[1:]
+    for pin in pins:
+        if not PIN.fullmatch(pin):
+            sys.exit(f"'{pin}' is no pin: one is called as '4 BG3IN' or '9 IACKOUT' is")
     rows = read(sys.stdin, pins)
+    times = [row.time() for row in rows]
     low = lines_of(rows, pins)
     quiet = (row for row in range(len(rows)) if not low["AS"][row] and not low["DS"][row])
     first = next(quiet, None)
@@ -156,11 +206,11 @@ def main():
     for name in low:
         if low[name][first]:
             print(f"low {name}")
-    begin = min(Decimal(rows[0][TIME]), 0)
+    begin = min(times[0], 0)
     for row in range(first + 1, len(rows)):
-        changes = list(changes_in(row, low, shown, rows[row]["D"]))
+        changes = list(changes_in(rows, row, low, shown))
         if changes:
-            print(f"@{int((Decimal(rows[row][TIME]) - begin) / STEP)}", *changes, sep="\n")
+            print(f"@{int((times[row] - begin) / STEP)}", *changes, sep="\n")
     print(f"{len(rows)} rows; cycles without a strobe left out: {left_out}", file=sys.stderr)
 
 

@@ -12,6 +12,8 @@ pub mod Took
 pub mod Found
 -- the laws of a line: `laws`
 pub mod LineLaws
+-- a capture that says less stays possible: `laws`
+pub mod Less
 -- a test of the slots below another: `wires::is_closed_below`
 pub mod BelowSlots
 -- the first byte that passes: `words`

@@ -1,5 +1,5 @@
 -- What is the same by its test is the same.
-use Rattle.std.proofs.Common.{◌≡◌, ◌≢◌, ◌&&◌, ◌||◌, ◌+◌, ◌<◌, ◌≤◌, ◌++◌, ℕ, zero, suc, add-one, append-nil, drop, get_or, length, set, take, Bool, true, false, cond, eqb, List, [], ◌∷◌, Some, None, map, find, is_some, option_map, refl, sym, ◌∙◌, ap, arith, inl, inr}
+use Rattle.std.proofs.Common.{◌≡◌, ◌≢◌, ◌&&◌, ◌||◌, ◌+◌, ◌<◌, ◌≤◌, ◌++◌, ℕ, zero, suc, add-one, append-nil, drop, get_or, length, set, take, Bool, true, false, cond, eqb, List, [], ◌∷◌, Option, Some, None, map, find, is_some, option_map, refl, sym, ◌∙◌, ap, arith, inl, inr}
 use Rattle.std.proofs.lemmas.Bool.{and_parts, cases_Bool}
 use Rattle.std.proofs.lemmas.Bool.Decides.{nat_tests}
 use Rattle.std.proofs.Math.ListN.{drop_of_length-le}
@@ -12,10 +12,13 @@ use Rattle.vme_captures.specs.declared.signals.Line.TheVariants as line
 use Rattle.vme_captures.specs.declared.signals.Side.{Side}
 use Rattle.vme_captures.specs.declared.signals.Side.TheVariants.{In, Out}
 use Rattle.vme_captures.specs.declared.signals.Pin.{Pin}
-use Rattle.vme_captures.specs.Signals.{is_same_chain, is_same_line, is_same_pin, is_same_side}
+use Rattle.vme_captures.specs.declared.signals.Segment.{Segment}
+use Rattle.vme_captures.specs.declared.signals.Signal.{Signal}
+use Rattle.vme_captures.specs.declared.signals.Signal.TheVariants as signal
+use Rattle.vme_captures.specs.Signals.{is_same_chain, is_same_line, is_same_pin, is_same_place, is_same_segment, is_same_side, is_same_signal}
 use Rattle.vme_trace.proofs.Lines.{true_false}
 
-false_true : {A : Type 0} → false ≡ true → A
+pub false_true : {A : Type 0} → false ≡ true → A
 false_true h = absurd (true_false (sym h))
 
 eqb_same : (s t : ℕ) → eqb s t ≡ true → s ≡ t
@@ -47,6 +50,21 @@ pin_same a b h =
     let l = and_parts (eqb a.slot b.slot) (is_same_chain a.chain b.chain) k.0 in
     pin_is a.slot b.slot a.chain b.chain a.side b.side (eqb_same a.slot b.slot l.0) (chain_same a.chain b.chain l.1) (side_same a.side b.side k.1)
 
+place_same : (a b : Option ℕ) → is_same_place a b ≡ true → a ≡ b
+place_same None None h = refl
+place_same (Some s) (Some t) h = ap (λ k. Some k) (eqb_same s t h)
+place_same None (Some t) h = false_true h
+place_same (Some s) None h = false_true h
+
+segment_is : (c d : ChainId) (s t : Option ℕ) → c ≡ d → s ≡ t
+    → (let a : Segment = record { chain = c; place = s } in let b : Segment = record { chain = d; place = t } in a ≡ b)
+segment_is c d s t e f = rw (e, f) refl
+
+pub segment_same : (a b : Segment) → is_same_segment a b ≡ true → a ≡ b
+segment_same a b h =
+    let k = and_parts (is_same_chain a.chain b.chain) (is_same_place a.place b.place) h in
+    segment_is a.chain b.chain a.place b.place (chain_same a.chain b.chain k.0) (place_same a.place b.place k.1)
+
 pub line_same : (a b : Line) → is_same_line a b ≡ true → a ≡ b
 line_same (line.Br m) (line.Br n) h = ap (λ k. line.Br k) (eqb_same m n h)
 line_same (line.Irq m) (line.Irq n) h = ap (λ k. line.Irq k) (eqb_same m n h)
@@ -57,6 +75,11 @@ line_same line.Dtack line.Dtack h = refl
 line_same line.Berr line.Berr h = refl
 line_same line.Bclr line.Bclr h = refl
 line_same _ _ h = false_true h
+
+pub signal_same : (a b : Signal) → is_same_signal a b ≡ true → a ≡ b
+signal_same (signal.Line a) (signal.Line b) h = ap (λ l. signal.Line l) (line_same a b h)
+signal_same (signal.Pin a) (signal.Pin b) h = ap (λ q. signal.Pin q) (pin_same a b h)
+signal_same _ _ h = false_true h
 
 line_is_same : (a : Line) → is_same_line a a ≡ true
 line_is_same (line.Br m) = same_eqb m

@@ -8,6 +8,8 @@ pub mod Wires
 pub mod Changes
 -- believe: when a bus that keeps the rules can show a capture, and who may have made a change
 pub mod Possible
+-- believe: captures that say less of what was seen
+pub mod Leaving
 -- believe: how what a line of a capture says is spelled
 pub mod Spelling
 -- words: what a line says, word by word

@@ -1,5 +1,13 @@
 -- one condition more in the walk along the conditions of a change: `left::first_failing`
 pub mod First
+-- what conditions leave of a record, part by part: `laws`
+pub mod Leaving
+-- what stands in the way of a rise: `laws`
+pub mod Rising
+-- what stands in the way of a request: `laws`
+pub mod Requesting
+-- what stands in the way of AS*, DS*, DTACK* and BERR*: `laws`
+pub mod Cycling
 -- the lines of the changes that may come: `answers`
 pub mod Coming
 -- one line more in a loop: `answers`

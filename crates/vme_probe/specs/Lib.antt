@@ -17,6 +17,8 @@ pub mod Obstacles
 pub mod Demands
 -- believe: the conditions of each change
 pub mod Conditions
+-- believe: when something is named that stands in a driver's way
+pub mod Hindered
 -- words: the probed pins, as segments of the daisy chains
 pub mod Pins
 -- words: what the parts of a judgement do

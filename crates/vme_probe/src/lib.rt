@@ -8,6 +8,7 @@ mod cycle_conditions;
 mod demands;
 mod grant_conditions;
 mod judging;
+pub mod laws;
 mod left;
 mod lines;
 mod obstacles;
