@@ -135,7 +135,7 @@ module _ (p : Plan) (v w : Version) (k : Numbered) (fs : List Edge) where
     pub sure_over : IsSure p v w k fs ended true found
     sure_over more later first second = sure more later first (λ is. second refl)
 
-  -- ---- an edge that is looked for
+  -- ---- an edge that is matched
 
   module _ (e : Edge) (next : List Edge) (rest : Rest) (n number : ℕ)
       (ready : IsOpen p v w k fs (e ∷ next) rest n) (is : number ≡ n + 1) where

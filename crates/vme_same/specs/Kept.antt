@@ -66,8 +66,8 @@ Leads p v w k fs taken left n next =
     → Compares v p taken (more ++ left) n (next ++ later) found
     → IsOutcome p v w (more ++ k) (fs ++ later) found
 
--- So many edges were looked for, and all came to the front of the first trace, of which the rest is
--- left. These edges of the second trace come next.
+-- So many edges of the second trace came to the front of the first one, of which the rest is left.
+-- These edges of the second trace come next.
 pub record IsOpen
     (p : Plan) (v w : Version) (k : Numbered) (fs next : List Edge) (rest : Rest) (count : ℕ)
     : Type 0 where
@@ -79,7 +79,7 @@ pub record IsOpen
   pub all : count + length next ≡ length fs
   pub few : length fs < 2 ^ 64
 
--- this edge is looked for, and more edges are left than it may pass
+-- this edge is sought, and more edges are left than it may pass
 pub record IsSought
     (p : Plan) (v w : Version) (k : Numbered) (fs : List Edge) (sought : Sought)
     : Type 0 where
@@ -128,7 +128,7 @@ OfGoing now P =
 abbrev pub IsAmple : Pairing → Type 0
 IsAmple now = now.has_ended ≡ false → most_passed < length now.rest.edges.items
 
--- if the first trace has ended, all that came was looked for
+-- if the first trace has ended, no edge of the second one waits
 abbrev pub IsIdle : Pairing → Type 0
 IsIdle now = now.progress ≡ Open → now.has_ended ≡ true → now.waiting.items ≡ []
 

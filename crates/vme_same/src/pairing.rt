@@ -18,8 +18,8 @@ use crate::rest::{Rest, is_same};
 use std::alloc::Global;
 use std::collections::VecDeque;
 use vme_model::{Edge, Version};
-use vme_swaps::Stop;
 use vme_slots::Plan;
+use vme_swaps::Stop;
 use vme_trace::Fault;
 
 /// How many edges one passes at most.
@@ -63,9 +63,9 @@ impl Pairing {
         !self.has_ended && self.rest.edges.len() <= MOST_PASSED
     }
 
-    /// Takes the edge that is found at this place if it comes to the front, as the edge of this
-    /// number in the second trace.
-    fn bring(&mut self, number: u64, edge: &Edge, place: usize) -> Progress
+    /// Matches the edge, which has this number in the second trace, with the one that is found at
+    /// this place of the rest. That one is taken out if it comes to the front.
+    fn match_at(&mut self, number: u64, edge: &Edge, place: usize) -> Progress
         requires place { place < length self.old.rest.edges.items }
         requires formed { is_well_formed edge.now ≡ true }
         ensures going { (p : PlanValue) (v w : VersionValue) (k : Numbered) (fs : List EdgeValue)
@@ -94,8 +94,9 @@ impl Pairing {
         }
     }
 
-    /// What comes of an edge of the second trace that is none of those that are left.
-    fn miss(&self, sought: &Sought) -> Progress
+    /// What comes of an edge of the second trace that is none of those that are left. It is missing
+    /// if the first trace has ended, and is sought otherwise.
+    fn missing_or_sought(&self, sought: &Sought) -> Progress
         requires { is_formed_sought sought.now ≡ true }
         ensures going { (p : PlanValue) (v w : VersionValue) (k : Numbered) (fs : List EdgeValue)
             (taken left : Numbered) (n : ℕ) (next : List EdgeValue) → sought.now.number ≡ n + 1
@@ -118,8 +119,8 @@ impl Pairing {
         }
     }
 
-    /// What comes of the next edge of the second trace.
-    fn look_for(&mut self, edge: &Edge) -> Progress
+    /// Finds the next edge of the second trace in what is left of the first one, and matches it.
+    fn find_in_rest(&mut self, edge: &Edge) -> Progress
         requires { is_well_formed edge.now ≡ true }
         ensures going { (p : PlanValue) (v w : VersionValue) (k : Numbered) (fs : List EdgeValue)
             → IsOpen p v w k fs (edge.now ∷ edges_of self.old.waiting.items) self.old.rest
@@ -132,7 +133,7 @@ impl Pairing {
     {
         let number = self.taken.saturating_add(1);
         match self.rest.find(edge) {
-            None => self.miss(&Sought {
+            None => self.missing_or_sought(&Sought {
                 number,
                 edge: *edge,
                 own: self.rest.first_of(edge.driver),
@@ -146,13 +147,13 @@ impl Pairing {
                         own: self.rest.first_of(edge.driver),
                     });
                 }
-                self.bring(number, edge, place)
+                self.match_at(number, edge, place)
             }
         }
     }
 
-    /// Whether the next edge of the second trace can be looked for.
-    fn can_look(&self) -> bool
+    /// Whether an edge of the second trace waits, and can be matched now.
+    fn can_match(&self) -> bool
         ensures open { IsTrue result → self.now.progress ≡ Progress.Open }
         ensures some { IsTrue result → 0 < length self.now.waiting.items }
         ensures ample { IsTrue result → IsAmple self.now }
@@ -164,8 +165,8 @@ impl Pairing {
         }
     }
 
-    /// Looks for the next edge of the second trace.
-    fn look(&mut self)
+    /// Matches the next edge of the second trace that waits with what is left of the first one.
+    fn match_next(&mut self)
         requires open { self.old.progress ≡ Progress.Open }
         requires ample { IsAmple self.old }
         ensures going { OfGoing self.old (λ p v w k fs. IsGoing p v w k fs self.new) }
@@ -175,19 +176,19 @@ impl Pairing {
         ensures over { self.new.is_over ≡ self.old.is_over }
     {
         if let Some(next) = self.waiting.pop_front() {
-            self.progress = self.look_for(&next.edge);
+            self.progress = self.find_in_rest(&next.edge);
         }
     }
 
-    /// Looks for edges of the second trace, as far as it can.
-    fn look_on(&mut self)
+    /// Matches the edges of the second trace that wait, as far as it can.
+    fn match_waiting(&mut self)
         ensures going { OfGoing self.old (λ p v w k fs. IsGoing p v w k fs self.new) }
         ensures idle { IsIdle self.new }
         ensures ended { self.new.has_ended ≡ self.old.has_ended }
         ensures over { self.new.is_over ≡ self.old.is_over }
     {
-        'looks: while self.can_look() {
-            self.look();
+        'matches: while self.can_match() {
+            self.match_next();
         }
     }
 
@@ -219,12 +220,13 @@ impl Pairing {
         ensures ended { self.new.has_ended ≡ self.old.has_ended }
         ensures over { self.new.is_over ≡ self.old.is_over }
     {
-        self.look_on();
+        self.match_waiting();
         self.close();
     }
 
-    /// What comes of an edge of the first trace while an edge of the second one is looked for.
-    fn seek(&self, number: u64, edge: &Edge, sought: &Sought) -> Progress
+    /// What comes of an edge of the first trace while one of the second trace is sought. The latter
+    /// is far if both are the same, and stays sought otherwise.
+    fn far_or_sought(&self, number: u64, edge: &Edge, sought: &Sought) -> Progress
         requires formed { is_well_formed edge.now ≡ true }
         requires sought { is_formed_sought sought.now ≡ true }
         ensures going { (p : PlanValue) (v w : VersionValue) (k : Numbered) (fs : List EdgeValue)
@@ -265,7 +267,7 @@ impl Pairing {
         match self.progress {
             Progress::Open => self.rest.push(number, edge),
             Progress::Seeks(sought) => {
-                self.progress = self.seek(number, edge, &sought);
+                self.progress = self.far_or_sought(number, edge, &sought);
                 Ok(())
             }
             Progress::Finds(_) => Ok(()),
@@ -302,7 +304,7 @@ impl Pairing {
     {
         self.has_ended = true;
         match self.progress {
-            Progress::Seeks(sought) => self.progress = self.miss(&sought),
+            Progress::Seeks(sought) => self.progress = self.missing_or_sought(&sought),
             Progress::Open | Progress::Finds(_) => {}
         }
     }

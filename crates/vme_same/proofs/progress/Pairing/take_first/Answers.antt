@@ -15,7 +15,7 @@ returns-in-Open-clause-going c =
 
 pub returns-in-Seeks-clause-going : goal.returns-in-Seeks-clause-going
 returns-in-Seeks-clause-going c = λ p v w k fs going goes legal.
-    c.seek-self.ensures.going p v w k fs
+    c.far_or_sought-self.ensures.going p v w k fs
     (subst (Goes p v w k fs c.args.self.now) c.in-Seeks.is going)
 
 pub returns-in-Finds-clause-going : goal.returns-in-Finds-clause-going

@@ -3,7 +3,7 @@ use Rattle.vme_model.specs.Signals.{is_well_formed}
 use Rattle.vme_model.proofs.Bools.{and_left, and_right}
 use Rattle.vme_same.specs.Formed.{is_formed_own}
 use Rattle.vme_same.proofs.Leading.{sought_far, sought_on}
-use Rattle.vme_same.proofs.progress.Pairing.seek.Goals as goal
+use Rattle.vme_same.proofs.progress.Pairing.far_or_sought.Goals as goal
 
 pub own_with-own-requires-clause-own : goal.own_with-own-requires-clause-own
 own_with-own-requires-clause-own c =

@@ -1,6 +1,6 @@
 use Rattle.vme_same.specs.Kept.{edges_of}
 use Rattle.vme_same.proofs.Leading.{open_next, stops_sure}
-use Rattle.vme_same.proofs.progress.Pairing.bring.Goals as goal
+use Rattle.vme_same.proofs.progress.Pairing.match_at.Goals as goal
 
 pub returns-in-Some-clause-going : goal.returns-in-Some-clause-going
 returns-in-Some-clause-going c = λ p v w k fs at ready is near.

@@ -1,13 +1,13 @@
 use Rattle.std.proofs.Common.{◌≡◌, length}
 use Rattle.vme_same.specs.Kept.{IsGoing, OfGoing}
-use Rattle.vme_same.proofs.progress.Pairing.look_on.Given as goal
+use Rattle.vme_same.proofs.progress.Pairing.match_waiting.Given as goal
 
-abbrev pub invariant-looks : goal.invariant-looks
-invariant-looks l = record {
+abbrev pub invariant-matches : goal.invariant-matches
+invariant-matches l = record {
   going : OfGoing l.fn.self (λ p v w k fs. IsGoing p v w k fs l.self);
   ended : l.self.has_ended ≡ l.fn.self.has_ended;
   over : l.self.is_over ≡ l.fn.self.is_over;
 }
 
-abbrev pub decreases-looks : goal.decreases-looks
-decreases-looks l = length l.self.waiting.items
+abbrev pub decreases-matches : goal.decreases-matches
+decreases-matches l = length l.self.waiting.items
