@@ -14,7 +14,7 @@ pub(crate) struct Left {
     ghost formed: { is_well_formed edge ≡ true },
 }
 
-/// An edge of the second trace that was not yet looked for.
+/// An edge of the second trace that waits to be matched.
 #[derive(Clone, Copy)]
 pub(crate) struct Next {
     pub(crate) edge: Edge,

@@ -1,15 +1,13 @@
 //! The edges of two traces without a refused edge, matched one by one.
 ghost use Rattle.std.specs.Prelude.{◌≡◌, ◌+◌, ◌<◌, ◌≤◌, ◌^◌, ◌++◌, ◌∷◌, ◌&&◌, [], IfErr, IsTrue, List, OnOk, false, length, nat_le, not, true, ℕ};
 ghost use Rattle.vme_model.specs.declared.signals.Edge.{Edge as EdgeValue};
-ghost use Rattle.vme_model.specs.declared.signals.Version.{Version as VersionValue};
 ghost use Rattle.vme_model.specs.Numbered.{Numbered, edges_in};
-ghost use Rattle.vme_model.specs.Plan.{Plan as PlanValue};
 ghost use Rattle.vme_model.specs.Signals.{is_well_formed};
 ghost use Rattle.vme_model.specs.Verdict.{IsLegal};
 ghost use Rattle.vme_swaps.specs.Stops.{most_passed};
-ghost use Rattle.vme_same.specs.Comparing.{IsFirstOf, IsMissing, IsOutcome};
+ghost use Rattle.vme_same.specs.Comparing.{IsFirstOf, IsMissing};
 ghost use Rattle.vme_same.specs.Formed.{is_formed_found, is_formed_progress, is_formed_sought};
-ghost use Rattle.vme_same.specs.Kept.{Goes, IsAmple, IsAt, IsGoing, IsIdle, IsOpen, Leads, OfGoing, edges_of};
+ghost use Rattle.vme_same.specs.Kept.{Goes, GoesOn, IsAmple, IsAt, IsGoing, IsIdle, IsOpen, IsOutcomeOf, Leads, Traces, edges_of, traces_of, with_first, with_second};
 
 use crate::comparisons::{Comparison, Why};
 use crate::edges::Next;
@@ -18,8 +16,8 @@ use crate::rest::{Rest, is_same};
 use std::alloc::Global;
 use std::collections::VecDeque;
 use vme_model::{Edge, Version};
-use vme_swaps::Stop;
 use vme_slots::Plan;
+use vme_swaps::Stop;
 use vme_trace::Fault;
 
 /// How many edges one passes at most.
@@ -40,7 +38,7 @@ fn begin(first: Version, second: Version) -> Progress
 impl Pairing {
     /// Before the first edge of either trace.
     pub(crate) fn new(alloc: Global, plan: &Plan, first: Version, second: Version) -> Pairing
-        ensures going { IsGoing plan.now first second [] [] result }
+        ensures going { IsGoing (traces_of plan.now first second [] []) result }
         ensures idle { IsIdle result }
         ensures ended { result.has_ended ≡ false }
         ensures over { result.is_over ≡ false }
@@ -63,17 +61,14 @@ impl Pairing {
         !self.has_ended && self.rest.edges.len() <= MOST_PASSED
     }
 
-    /// Takes the edge that is found at this place if it comes to the front, as the edge of this
-    /// number in the second trace.
-    fn bring(&mut self, number: u64, edge: &Edge, place: usize) -> Progress
+    /// Matches the edge, which has this number in the second trace, with the one that is found at
+    /// this place of the rest. That one is taken out if it comes to the front.
+    fn match_at(&mut self, number: u64, edge: &Edge, place: usize) -> Progress
         requires place { place < length self.old.rest.edges.items }
         requires formed { is_well_formed edge.now ≡ true }
-        ensures going { (p : PlanValue) (v w : VersionValue) (k : Numbered) (fs : List EdgeValue)
-            (at : IsAt edge.now place self.old.rest.edges.items)
-            → IsOpen p v w k fs (edge.now ∷ edges_of self.old.waiting.items) self.old.rest
-            self.old.taken
-            → number ≡ self.old.taken + 1 → place ≤ most_passed
-            → Goes p v w k fs self.new result }
+        ensures going { (t : Traces) (at : IsAt edge.now place self.old.rest.edges.items)
+            → IsOpen t (edge.now ∷ edges_of self.old.waiting.items) self.old.rest self.old.taken
+            → number ≡ self.old.taken + 1 → place ≤ most_passed → Goes t self.new result }
         ensures formed { is_formed_progress result ≡ true }
         ensures ended { self.new.has_ended ≡ self.old.has_ended }
         ensures over { self.new.is_over ≡ self.old.is_over }
@@ -94,16 +89,16 @@ impl Pairing {
         }
     }
 
-    /// What comes of an edge of the second trace that is none of those that are left.
-    fn miss(&self, sought: &Sought) -> Progress
+    /// What comes of an edge of the second trace that is none of those that are left. It is missing
+    /// if the first trace has ended, and is sought otherwise.
+    fn missing_or_sought(&self, sought: &Sought) -> Progress
         requires { is_formed_sought sought.now ≡ true }
-        ensures going { (p : PlanValue) (v w : VersionValue) (k : Numbered) (fs : List EdgeValue)
-            (taken left : Numbered) (n : ℕ) (next : List EdgeValue) → sought.now.number ≡ n + 1
-            → IsMissing sought.now.edge left
+        ensures going { (t : Traces) (taken left : Numbered) (n : ℕ) (next : List EdgeValue)
+            → sought.now.number ≡ n + 1 → IsMissing sought.now.edge left
             → IsFirstOf sought.now.edge.driver left sought.now.own
-            → Leads p v w k fs taken left n (sought.now.edge ∷ next)
+            → Leads t taken left n (sought.now.edge ∷ next)
             → (self.now.has_ended ≡ false → most_passed < length left)
-            → Goes p v w k fs self.now result }
+            → Goes t self.now result }
         ensures formed { is_formed_progress result ≡ true }
     {
         if self.has_ended {
@@ -118,13 +113,12 @@ impl Pairing {
         }
     }
 
-    /// What comes of the next edge of the second trace.
-    fn look_for(&mut self, edge: &Edge) -> Progress
+    /// Finds the next edge of the second trace in what is left of the first one, and matches it.
+    fn find_in_rest(&mut self, edge: &Edge) -> Progress
         requires { is_well_formed edge.now ≡ true }
-        ensures going { (p : PlanValue) (v w : VersionValue) (k : Numbered) (fs : List EdgeValue)
-            → IsOpen p v w k fs (edge.now ∷ edges_of self.old.waiting.items) self.old.rest
-            self.old.taken
-            → IsAmple self.old → Goes p v w k fs self.new result }
+        ensures going { (t : Traces)
+            → IsOpen t (edge.now ∷ edges_of self.old.waiting.items) self.old.rest self.old.taken
+            → IsAmple self.old → Goes t self.new result }
         ensures formed { is_formed_progress result ≡ true }
         ensures ended { self.new.has_ended ≡ self.old.has_ended }
         ensures over { self.new.is_over ≡ self.old.is_over }
@@ -132,7 +126,7 @@ impl Pairing {
     {
         let number = self.taken.saturating_add(1);
         match self.rest.find(edge) {
-            None => self.miss(&Sought {
+            None => self.missing_or_sought(&Sought {
                 number,
                 edge: *edge,
                 own: self.rest.first_of(edge.driver),
@@ -146,13 +140,13 @@ impl Pairing {
                         own: self.rest.first_of(edge.driver),
                     });
                 }
-                self.bring(number, edge, place)
+                self.match_at(number, edge, place)
             }
         }
     }
 
-    /// Whether the next edge of the second trace can be looked for.
-    fn can_look(&self) -> bool
+    /// Whether an edge of the second trace waits, and can be matched now.
+    fn can_match(&self) -> bool
         ensures open { IsTrue result → self.now.progress ≡ Progress.Open }
         ensures some { IsTrue result → 0 < length self.now.waiting.items }
         ensures ample { IsTrue result → IsAmple self.now }
@@ -164,37 +158,37 @@ impl Pairing {
         }
     }
 
-    /// Looks for the next edge of the second trace.
-    fn look(&mut self)
+    /// Matches the next edge of the second trace that waits with what is left of the first one.
+    fn match_next(&mut self)
         requires open { self.old.progress ≡ Progress.Open }
         requires ample { IsAmple self.old }
-        ensures going { OfGoing self.old (λ p v w k fs. IsGoing p v w k fs self.new) }
+        ensures going { GoesOn self.old self.new }
         ensures fewer { 0 < length self.old.waiting.items
             → length self.new.waiting.items < length self.old.waiting.items }
         ensures ended { self.new.has_ended ≡ self.old.has_ended }
         ensures over { self.new.is_over ≡ self.old.is_over }
     {
         if let Some(next) = self.waiting.pop_front() {
-            self.progress = self.look_for(&next.edge);
+            self.progress = self.find_in_rest(&next.edge);
         }
     }
 
-    /// Looks for edges of the second trace, as far as it can.
-    fn look_on(&mut self)
-        ensures going { OfGoing self.old (λ p v w k fs. IsGoing p v w k fs self.new) }
+    /// Matches the edges of the second trace that wait, as far as it can.
+    fn match_waiting(&mut self)
+        ensures going { GoesOn self.old self.new }
         ensures idle { IsIdle self.new }
         ensures ended { self.new.has_ended ≡ self.old.has_ended }
         ensures over { self.new.is_over ≡ self.old.is_over }
     {
-        'looks: while self.can_look() {
-            self.look();
+        'matches: while self.can_match() {
+            self.match_next();
         }
     }
 
     /// If the second trace has ended, and all its edges came to the front, an edge that is left
     /// stays so.
     fn close(&mut self)
-        ensures going { OfGoing self.old (λ p v w k fs. IsGoing p v w k fs self.new) }
+        ensures going { GoesOn self.old self.new }
         ensures idle { IsIdle self.old → IsIdle self.new }
         ensures ended { self.new.has_ended ≡ self.old.has_ended }
         ensures over { self.new.is_over ≡ self.old.is_over }
@@ -214,22 +208,22 @@ impl Pairing {
 
     /// Goes on as far as it can.
     pub(crate) fn advance(&mut self)
-        ensures going { OfGoing self.old (λ p v w k fs. IsGoing p v w k fs self.new) }
+        ensures going { GoesOn self.old self.new }
         ensures idle { IsIdle self.new }
         ensures ended { self.new.has_ended ≡ self.old.has_ended }
         ensures over { self.new.is_over ≡ self.old.is_over }
     {
-        self.look_on();
+        self.match_waiting();
         self.close();
     }
 
-    /// What comes of an edge of the first trace while an edge of the second one is looked for.
-    fn seek(&self, number: u64, edge: &Edge, sought: &Sought) -> Progress
+    /// What comes of an edge of the first trace while one of the second trace is sought. The latter
+    /// is far if both are the same, and stays sought otherwise.
+    fn far_or_sought(&self, number: u64, edge: &Edge, sought: &Sought) -> Progress
         requires formed { is_well_formed edge.now ≡ true }
         requires sought { is_formed_sought sought.now ≡ true }
-        ensures going { (p : PlanValue) (v w : VersionValue) (k : Numbered) (fs : List EdgeValue)
-            → Goes p v w k fs self.now (Progress.Seeks sought.now)
-            → Goes p v w ((number, edge.now) ∷ k) fs self.now result }
+        ensures going { (t : Traces) → Goes t self.now (Progress.Seeks sought.now)
+            → Goes (with_first t (number, edge.now)) self.now result }
         ensures formed { is_formed_progress result ≡ true }
     {
         let own = sought.own_with(number, edge);
@@ -255,9 +249,10 @@ impl Pairing {
     /// X6.
     pub(crate) fn take_first(&mut self, number: u64, edge: &Edge) -> Result<(), Fault>
         requires { is_well_formed edge.now ≡ true }
-        ensures going { OnOk result (OfGoing self.old (λ p v w k fs. self.old.has_ended ≡ false
-            → IsLegal v p (edge.now ∷ edges_in k)
-            → IsGoing p v w ((number, edge.now) ∷ k) fs self.new)) }
+        ensures going { OnOk result ((t : Traces) → IsGoing t self.old
+            → self.old.has_ended ≡ false
+            → IsLegal t.first_version t.plan (edge.now ∷ edges_in t.first)
+            → IsGoing (with_first t (number, edge.now)) self.new) }
         ensures ended { self.new.has_ended ≡ self.old.has_ended }
         ensures over { self.new.is_over ≡ self.old.is_over }
         ensures fault { IfErr result (λ fault. fault ≡ Fault.Memory) }
@@ -265,7 +260,7 @@ impl Pairing {
         match self.progress {
             Progress::Open => self.rest.push(number, edge),
             Progress::Seeks(sought) => {
-                self.progress = self.seek(number, edge, &sought);
+                self.progress = self.far_or_sought(number, edge, &sought);
                 Ok(())
             }
             Progress::Finds(_) => Ok(()),
@@ -278,8 +273,9 @@ impl Pairing {
     /// X6.
     pub(crate) fn take_second(&mut self, edge: &Edge) -> Result<(), Fault>
         requires { is_well_formed edge.now ≡ true }
-        ensures going { OnOk result (OfGoing self.old (λ p v w k fs. self.old.is_over ≡ false
-            → length fs + 1 < 2 ^ 64 → IsGoing p v w k (fs ++ edge.now ∷ []) self.new)) }
+        ensures going { OnOk result ((t : Traces) → IsGoing t self.old
+            → self.old.is_over ≡ false → length t.second + 1 < 2 ^ 64
+            → IsGoing (with_second t edge.now) self.new) }
         ensures ended { self.new.has_ended ≡ self.old.has_ended }
         ensures over { self.new.is_over ≡ self.old.is_over }
         ensures fault { IfErr result (λ fault. fault ≡ Fault.Memory) }
@@ -296,20 +292,20 @@ impl Pairing {
 
     /// Learns that the first trace has ended.
     pub(crate) fn end_first(&mut self)
-        ensures going { OfGoing self.old (λ p v w k fs. IsGoing p v w k fs self.new) }
+        ensures going { GoesOn self.old self.new }
         ensures ended { self.new.has_ended ≡ true }
         ensures over { self.new.is_over ≡ self.old.is_over }
     {
         self.has_ended = true;
         match self.progress {
-            Progress::Seeks(sought) => self.progress = self.miss(&sought),
+            Progress::Seeks(sought) => self.progress = self.missing_or_sought(&sought),
             Progress::Open | Progress::Finds(_) => {}
         }
     }
 
     /// Learns that the second trace has ended.
     pub(crate) fn end_second(&mut self)
-        ensures going { OfGoing self.old (λ p v w k fs. IsGoing p v w k fs self.new) }
+        ensures going { GoesOn self.old self.new }
         ensures ended { self.new.has_ended ≡ self.old.has_ended }
         ensures over { self.new.is_over ≡ true }
     {
@@ -318,8 +314,8 @@ impl Pairing {
 
     /// What is found of two traces that have ended.
     pub(crate) fn found(&self) -> Comparison
-        ensures found { OfGoing self.now (λ p v w k fs. IsIdle self.now
-            → self.now.has_ended ≡ true → self.now.is_over ≡ true → IsOutcome p v w k fs result) }
+        ensures found { (t : Traces) → IsGoing t self.now → IsIdle self.now
+            → self.now.has_ended ≡ true → self.now.is_over ≡ true → IsOutcomeOf t result }
         ensures formed { IsTrue (is_formed_found result) }
     {
         match self.progress {

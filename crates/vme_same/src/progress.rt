@@ -11,7 +11,7 @@ use crate::rest::{Rest, is_of};
 use std::collections::VecDeque;
 use vme_model::Edge;
 
-/// An edge of the second trace that is looked for.
+/// An edge of the second trace that is sought among the edges of the first one that come.
 #[derive(Clone, Copy)]
 pub(crate) struct Sought {
     /// Its number in the second trace.
@@ -47,7 +47,7 @@ impl Sought {
 /// What is known of two traces so far.
 #[derive(Clone, Copy)]
 pub(crate) enum Progress {
-    /// All edges of the second trace that were looked for came to the front.
+    /// All edges of the second trace but those that wait came to the front.
     Open,
     /// More than 200 edges are left of the first trace, and none of them is this edge of the second
     /// one: it is far if it comes later, and otherwise it is missing.
@@ -65,7 +65,7 @@ pub(crate) struct Pairing {
     pub(crate) is_over: bool,
     /// What is left of the first trace.
     pub(crate) rest: Rest,
-    /// The edges of the second trace that were not yet looked for, the oldest first.
+    /// The edges of the second trace that wait to be matched, the oldest first.
     pub(crate) waiting: VecDeque<Next>,
     /// How many edges were taken out of the first trace.
     pub(crate) taken: u64,

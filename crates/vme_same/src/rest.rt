@@ -20,9 +20,8 @@ use std::alloc::Global;
 use std::collections::VecDeque;
 use vme_bus::BusState;
 use vme_model::{Driver, Edge, Version};
-use vme_swaps::Stop;
 use vme_slots::Plan;
-use vme_swaps::{StepBack, step_back};
+use vme_swaps::{StepBack, Stop, step_back};
 use vme_trace::Fault;
 
 /// What is left of the first trace, and the bus before it.
