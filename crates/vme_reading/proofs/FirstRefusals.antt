@@ -1,5 +1,5 @@
 -- The first refusal among edges.
-use Rattle.std.proofs.Common.{◌≡◌, ℕ, ◌+◌, ◌≤◌, List, [], ◌∷◌, ◌++◌, length, Bool, true, false, Option, Some, None, Result, Ok, Err, refl, sym, ◌∙◌, ap, append_assoc, subst, arith, reverse}
+use Rattle.std.proofs.Common.{◌≡◌, ℕ, ◌+◌, ◌≤◌, List, [], ◌∷◌, ◌++◌, length, Bool, true, false, Option, Some, None, Ok, Err, refl, sym, ◌∙◌, ap, append_assoc, subst, arith, reverse}
 use mathlib.Core.List.{reverse-cons}
 use Rattle.std.specs.Prelude.{◌-◌, if◌then◌else◌, is_ok}
 use Rattle.vme_model.specs.declared.signals.Edge.{Edge}

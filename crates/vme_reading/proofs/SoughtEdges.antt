@@ -1,5 +1,5 @@
 -- A trace that is read up to the edge that is asked for.
-use Rattle.std.proofs.Common.{◌≡◌, ◌≢◌, inl, inr, ◌<◌, ◌≤◌, ◌+◌, ◌++◌, ◌∷◌, [], ℕ, Bool, true, false, List, Option, Some, None, Result, Ok, Err, is_ok, length, take, drop, get_or, refl, sym, ◌∙◌, ap, subst, append_assoc, arith, take-append-drop}
+use Rattle.std.proofs.Common.{◌≡◌, ◌≢◌, inl, inr, ◌<◌, ◌+◌, ◌++◌, ◌∷◌, [], ℕ, Bool, true, false, List, Option, Some, None, Result, Ok, Err, is_ok, length, take, drop, get_or, refl, sym, ◌∙◌, ap, subst, append_assoc, arith, take-append-drop}
 use Rattle.std.specs.Prelude.{slice_get, IsTrue}
 use Rattle.std.specs.List.{list_all}
 use Rattle.std.proofs.Math.ListN.{length-append}
@@ -8,17 +8,15 @@ use Rattle.std.proofs.lemmas.Bool.{and_parts}
 use Rattle.std.proofs.lemmas.List.{drop_more, take_more}
 use Rattle.std.specs.Io.KnownBytes.{Keeps}
 use Rattle.std.proofs.KnownBytes.{Keeps-refl}
-use Rattle.vme_model.specs.declared.refusals.Refused.{Refused}
 use Rattle.vme_model.specs.declared.signals.Edge.{Edge}
 use Rattle.vme_model.specs.declared.signals.Version.{Version}
 use Rattle.vme_model.specs.Locality.{AreWellFormed}
 use Rattle.vme_model.specs.Plan.{Plan}
 use Rattle.vme_model.specs.Signals.{is_well_formed}
 use Rattle.vme_model.specs.Text.{read_of}
-use Rattle.vme_model.specs.Verdict.{State, Judgement, after, kept, verdict}
+use Rattle.vme_model.specs.Verdict.{Judgement, kept, verdict}
 use Rattle.vme_trace.specs.declared.Fault.{Fault}
-use Rattle.vme_reading.specs.declared.seeking.Found.{Found}
-use Rattle.vme_reading.specs.declared.seeking.Found.TheVariants.{At, Legal, Beyond}
+use Rattle.vme_reading.specs.declared.seeking.Found.TheVariants.{At}
 use Rattle.vme_reading.specs.Begun.{IsUnread}
 use Rattle.vme_reading.specs.Outcomes.{bench}
 use Rattle.vme_reading.specs.Pieces.{Came}
@@ -119,11 +117,44 @@ module _ {S : Type 0} (Stands : Standing S) (p : Plan) (v : Version) (before es 
     next = met.1;
   }
 
+  -- the same, of what a call says of the edge that is asked for by it
+  pub comes_by : (mine asked : Option ℕ) → mine ≡ asked → (was judged : ℕ) (old at : S) (t : Bool)
+      → t ≡ true → HasPassed Stands asked p v (before ++ take i es) was old
+      → (HasPassed Stands mine p v (before ++ take i es) was old
+      → Meets Stands mine p v (before ++ take i es) (get_or es i d) judged at t)
+      → ComesTo Stands asked p v before es judged at (get_or es i d)
+  comes_by mine asked same was judged old at t is passed meets =
+      let here : (a : Option ℕ) → Type 0 =
+      λ a. HasPassed Stands a p v (before ++ take i es) was old in
+      comes_here asked judged at
+      (subst (λ (a : Option ℕ). Meets Stands a p v (before ++ take i es) (get_or es i d) judged at true)
+      same
+      (subst (λ (b : Bool). Meets Stands mine p v (before ++ take i es) (get_or es i d) judged at b) is
+      (meets (subst here (sym same) passed))))
+
   pub passed_next : (asked : Option ℕ) (judged : ℕ) (at : S)
       → Meets Stands asked p v (before ++ take i es) (get_or es i d) judged at false
       → HasPassed Stands asked p v (before ++ take (i + 1) es) judged at
   passed_next asked judged at met =
       subst (λ (l : List Edge). HasPassed Stands asked p v l judged at) (next_list before es i d h) met
+
+-- ---- what a search among the edges of a piece gave
+
+pub come_of : {S : Type 0} (Stands : Standing S) (p : Plan) (v : Version) (before es : List Edge)
+    (mine asked : Option ℕ) → mine ≡ asked → (judged : ℕ) (at : S) (e : Edge) (found : Option Edge)
+    → found ≡ Some e → Seeks Stands mine p v before es judged at found
+    → ComesTo Stands asked p v before es judged at e
+come_of Stands p v before es mine asked same judged at e found is sought =
+    subst (λ (a : Option ℕ). ComesTo Stands a p v before es judged at e) same
+    (subst (λ (f : Option Edge). Seeks Stands mine p v before es judged at f) is sought)
+
+pub all_passed : {S : Type 0} (Stands : Standing S) (p : Plan) (v : Version) (before es : List Edge)
+    (mine asked : Option ℕ) → mine ≡ asked → (judged : ℕ) (at : S) (found : Option Edge)
+    → found ≡ None → Seeks Stands mine p v before es judged at found
+    → HasPassed Stands asked p v (before ++ es) judged at
+all_passed Stands p v before es mine asked same judged at found is sought =
+    subst (λ (a : Option ℕ). HasPassed Stands a p v (before ++ es) judged at) same
+    (subst (λ (f : Option Edge). Seeks Stands mine p v before es judged at f) is sought)
 
 -- ---- the edge in its trace
 
