@@ -149,3 +149,11 @@ on_stays p v es b now m noted (Err e) is_err h is = record {
   kept = h.0 ∙ is.kept;
   marks = subst (λ (n : Marks). IsMarksOf p (numbered (bench p v) es) n) (sym h.1) is.marks;
 }
+
+version_by : (t : Bool) (b : State) (e : Edge) → (if t then made b e else b).version ≡ b.version
+version_by true b e = refl
+version_by false b e = refl
+
+pub kept_version : (b : State) (es : List Edge) → (kept b es).version ≡ b.version
+kept_version b [] = refl
+kept_version b (e ∷ es) = kept_version (after b e) es ∙ version_by (is_ok (verdict b e)) b e
