@@ -9,7 +9,7 @@ ghost use Rattle.vme_reading.specs.Streams.{ReadNothing, WroteNothing, streams};
 ghost use Rattle.vme_races.specs.Asked.{IsLineOf, PrintsWalkInput, WritesWalk};
 ghost use Rattle.vme_races.specs.Kept.{AreTaken};
 
-use crate::lines::{Line, refused_line, walk_line};
+use crate::lines::{refused_line, walk_line};
 use crate::racing::Racing;
 use std::alloc::Global;
 use std::io::{Read, Write};
@@ -17,6 +17,7 @@ use vme_bus::Bus;
 use vme_following::print_at_edge;
 use vme_model::Edge;
 use vme_reading::{Asked, AtEdge, EngineFault, Status};
+use vme_swaps::Line;
 use vme_trace::{Fault, flush, put};
 
 impl Racing {
