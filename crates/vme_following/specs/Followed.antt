@@ -37,8 +37,8 @@ pub record IsAfter (p : Plan) (v : Version) (es : List Edge) (now : Following) :
 -- the bus is what was kept of these edges of a trace of this version, and the marks are of them
 pub record IsOn (p : Plan) (v : Version) (es : List Edge) (bus : State) (marks : Marks)
     : Type 0 where
-  pub kept : bus ≡ kept (bench p v) es
-  pub marks : IsMarksOf p (numbered (bench p v) es) marks
+  pub kept_so : bus ≡ kept (bench p v) es
+  pub marked : IsMarksOf p (numbered (bench p v) es) marks
 
 -- what holds of all edges that were followed
 abbrev pub OfAfter : Following → (Plan → Version → List Edge → Type 0) → Type 0

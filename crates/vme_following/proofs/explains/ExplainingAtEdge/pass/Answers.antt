@@ -6,7 +6,7 @@ use Rattle.vme_following.proofs.explains.ExplainingAtEdge.pass.Goals as goal
 pub returns-clause-accepted : goal.returns-clause-accepted
 returns-clause-accepted c = λ p v es is.
     c.is_ok.ensures.value ∙ c.step_marked.ensures.accepted
-    ∙ ap (λ (s : State). is_ok (verdict s c.args.edge.now)) is.kept
+    ∙ ap (λ (s : State). is_ok (verdict s c.args.edge.now)) is.kept_so
 
 pub returns-clause-passes : goal.returns-clause-passes
 returns-clause-passes c = λ p v es is n.

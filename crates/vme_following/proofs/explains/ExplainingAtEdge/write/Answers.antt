@@ -52,7 +52,7 @@ returns-in-Ok g c = λ p v es is n.
     let edge = c.args.edge.now in
     let old = g.W.Write.contents c.args.out.now in
     let mid = g.W.Write.contents c.write_why.new.out in (
-      status_by _ _ edge c.answer-answer.result true is.kept c.answer-answer.ensures
+      status_by _ _ edge c.answer-answer.result true is.kept_so c.answer-answer.ensures
           (ap is_ok c.in-Ok.is),
       Appends-kept _ _ _ _ (of_on p v es _ _ is c.args.n (length es + 1)
           (λ i b k. why_text i b k edge) (Appends old mid) n c.in_ok-write_why.ensures.ok)
@@ -64,7 +64,7 @@ returns-in-Err g c = λ p v es is n.
     let edge = c.args.edge.now in
     let old = g.W.Write.contents c.args.out.now in
     let mid = g.W.Write.contents c.write_why.new.out in (
-      status_by _ _ edge c.answer-answer.result false is.kept c.answer-answer.ensures
+      status_by _ _ edge c.answer-answer.result false is.kept_so c.answer-answer.ensures
           (ap is_ok c.in-Err.is),
       Appends-kept _ _ _ _ (of_on p v es _ _ is c.args.n (length es + 1)
           (λ i b k. why_text i b k edge) (Appends old mid) n c.in_ok-write_why.ensures.ok)
