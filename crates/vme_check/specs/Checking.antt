@@ -1,5 +1,5 @@
 -- What a check of a trace finds, writes and answers.
-use Rattle.std.specs.Prelude.{◌≡◌, ◌⊎◌, ◌++◌, ◌∷◌, [], ℕ, List, length, codes, decimal, Some, None, Result, Ok, Err}
+use Rattle.std.specs.Prelude.{◌≡◌, ◌⊎◌, ◌+◌, ◌++◌, ◌∷◌, [], ℕ, List, length, codes, decimal, Some, None, Result, Ok, Err}
 use Rattle.vme_model.specs.declared.signals.Edge.{Edge}
 use Rattle.vme_model.specs.Plan.{Plan}
 use Rattle.vme_model.specs.Text.{Reading, read_of}
@@ -11,10 +11,10 @@ use Rattle.vme_reading.specs.declared.Status.TheVariants.{Done, SomeRefused}
 use Rattle.vme_reading.specs.declared.EngineFault.TheVariants as fault
 use Rattle.vme_check.specs.declared.checks.Finding.{Finding}
 use Rattle.vme_check.specs.declared.checks.Finding.TheVariants.{Legal, Illegal}
+use Rattle.vme_reading.specs.LegalTraces.{IsLegalTrace}
+use Rattle.vme_reading.specs.Refusals.{IsUnrefused, refusal_of}
 use Rattle.vme_reading.specs.Streams.{Streams, IsInput, HasConsumed, IsReadOut, Wrote, WroteFront, WroteNothing}
 use Rattle.vme_reading.specs.Outcomes.{Answer, HasFault, CanGoOn}
-use Rattle.vme_reading.specs.Refusals.{IsUnrefused, refusal_of}
-use Rattle.vme_reading.specs.LegalTraces.{IsLegalTrace}
 
 -- What a check finds in a trace.
 abbrev pub IsFound : Plan → Reading → Streams → Finding → Type 0
