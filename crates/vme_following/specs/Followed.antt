@@ -5,6 +5,7 @@ use Rattle.vme_model.specs.declared.signals.Edge.{Edge}
 use Rattle.vme_model.specs.Plan.{Plan}
 use Rattle.vme_model.specs.Verdict.{State, kept}
 use Rattle.vme_model.specs.Numbered.{Numbered, numbered}
+use Rattle.vme_explain.specs.declared.marks.Marks.{Marks}
 use Rattle.vme_explain.specs.Marked.{IsMarksOf}
 use Rattle.vme_trace.specs.declared.Fault.{Fault}
 use Rattle.vme_reading.specs.declared.EngineFault.{EngineFault}
