@@ -1,9 +1,8 @@
 -- A trace that is followed edge by edge.
-use Rattle.std.proofs.Common.{◌≡◌, ℕ, ◌+◌, ◌<◌, List, [], ◌∷◌, ◌++◌, length, Bool, true, false, Option, Some, None, Result, Ok, Err, OnErr, is_ok, get_or, take, drop, if◌then◌else◌, refl, sym, ◌∙◌, ap, subst, arith, append_assoc, take-append-drop}
+use Rattle.std.proofs.Common.{◌≡◌, ℕ, ◌+◌, ◌<◌, List, [], ◌∷◌, ◌++◌, length, Bool, true, false, Option, Result, Ok, Err, OnErr, is_ok, get_or, take, if◌then◌else◌, refl, sym, ◌∙◌, ap, subst, arith, append_assoc}
 use Rattle.std.proofs.Math.ListN.{length-append}
-use Rattle.std.proofs.lemmas.List.{take_more, drop_more, length-take-le}
+use Rattle.std.proofs.lemmas.List.{take_more}
 use Rattle.vme_model.specs.declared.deliveries.Delivery.{Delivery}
-use Rattle.vme_model.specs.declared.refusals.Refused.{Refused}
 use Rattle.vme_model.specs.declared.signals.Cycle.{Cycle}
 use Rattle.vme_model.specs.declared.signals.Edge.{Edge}
 use Rattle.vme_model.specs.declared.signals.Version.{Version}
@@ -12,17 +11,15 @@ use Rattle.vme_model.specs.declared.signals.Wire.TheVariants.{Dtack}
 use Rattle.vme_model.specs.Plan.{Plan}
 use Rattle.vme_model.specs.History.{shown}
 use Rattle.vme_model.specs.Verdict.{State, Judgement, verdict, made, after, kept}
-use Rattle.vme_model.specs.Deliveries.{answer, with_delivery}
+use Rattle.vme_model.specs.Deliveries.{with_delivery}
 use Rattle.vme_model.specs.Numbered.{Numbered, edges_in, numbered_with, numbered_on, numbered}
 use Rattle.vme_explain.specs.declared.marks.Marks.{Marks}
 use Rattle.vme_explain.specs.Marked.{IsMarksOf}
 use Rattle.vme_explain.specs.Traced.{OfTrace}
 use Rattle.vme_following.specs.declared.following.Following.{Following}
 use Rattle.vme_reading.specs.Outcomes.{bench}
-use Rattle.vme_reading.specs.Refusals.{or_refusal, first_refusal}
-use Rattle.vme_following.specs.Followed.{IsAfter, OfAfter, OfUnasked, ComesTo, counted, printed_behind}
+use Rattle.vme_following.specs.Followed.{IsAfter, IsOn, OfAfter, counted, printed_behind}
 use Rattle.vme_reading.proofs.WrittenLines.{kept_append}
-use Rattle.vme_reading.proofs.FirstRefusals.{refusal_behind}
 
 -- ---- what stays, and what the numbered edges are
 
@@ -79,92 +76,78 @@ numbered_refused t n e k is = rw is refl
 
 -- ---- what was followed
 
--- what a text says of the numbered edges
+-- the bus and the marks of these edges of a trace
+module _ (p : Plan) (v : Version) (es : List Edge) (b : State) (m : Marks) (is : IsOn p v es b m) where
+  edges_so : edges_in (numbered (bench p v) es) ≡ b.history
+  edges_so = edges_on (bench p v) 0 [] es refl ∙ ap (λ s. s.history) (sym is.kept_so)
+
+  plan_so : b.plan ≡ p
+  plan_so = ap (λ s. s.plan) is.kept_so ∙ kept_plan (bench p v) es
+
+  marks_so : IsMarksOf b.plan (numbered (bench p v) es) m
+  marks_so = subst (λ (q : Plan). IsMarksOf q (numbered (bench p v) es) m) (sym plan_so) is.marked
+
+  -- what a text says of the numbered edges
+  pub of_on : (n count : ℕ) (T : ℕ → State → Numbered → List ℕ) (W : List ℕ → Type 0) → n ≡ count
+      → OfTrace b m (λ k. W (T n b k))
+      → W (T count (kept (bench p v) es) (numbered (bench p v) es))
+  of_on n count T W same h =
+      let k = numbered (bench p v) es in
+      subst (λ (s : State). W (T count s k)) is.kept_so
+      (subst (λ (i : ℕ). W (T i b k)) same (h k edges_so marks_so))
+
+  -- the next edge was made if it is accepted, and noted
+  pub on_next : (e : Edge) (n : ℕ) (b' : State) (m' : Marks) → n ≡ length es + 1 → b' ≡ after b e
+      → OfTrace b m (λ k. IsMarksOf b.plan (numbered_with b n e k) m') → IsOn p v (es ++ e ∷ []) b' m'
+  on_next e n b' m' number made_so noted_so =
+      let k = numbered (bench p v) es in
+      let count : n ≡ (0 + length es) + 1 = omega (arith, number) in record {
+        kept_so = made_so ∙ ap (λ s. after s e) is.kept_so ∙ sym (kept_append (bench p v) es (e ∷ []));
+        marked =
+            subst (λ (q : Plan). IsMarksOf q (numbered (bench p v) (es ++ e ∷ [])) m') plan_so
+            (subst (λ (l : Numbered). IsMarksOf b.plan l m')
+            (ap (λ i. numbered_with b i e k) count
+            ∙ ap (λ s. numbered_with s ((0 + length es) + 1) e k) is.kept_so
+            ∙ sym (numbered_append (bench p v) 0 [] es (e ∷ [])))
+            (noted_so k edges_so marks_so));
+      }
+
 pub of_after : (f : Following) (T : ℕ → State → Numbered → List ℕ) (W : List ℕ → Type 0) → OfTrace f.bus f.marks (λ k. W (T f.judged f.bus k))
     → OfAfter f (λ p v es. W (printed_behind T p v es))
 of_after f T W h =
     λ p v es is.
-    let k = numbered (bench p v) es in
-    let edges : edges_in k ≡ f.bus.history = edges_on (bench p v) 0 [] es refl ∙ ap (λ s. s.history) (sym is.bus) in
-    let plan : f.bus.plan ≡ p = ap (λ s. s.plan) is.bus ∙ kept_plan (bench p v) es in
-    subst (λ (b : State). W (T (length es) b k)) is.bus
-    (subst (λ (n : ℕ). W (T n f.bus k)) is.judged (h k edges (subst (λ (q : Plan). IsMarksOf q k f.marks) (sym plan) is.marks)))
+    of_on p v es f.bus f.marks (record { kept_so = is.bus; marked = is.marks }) f.judged (length es) T W is.judged h
 
--- the next edge was made if it is accepted, and noted
 pub after_next : (p : Plan) (v : Version) (es : List Edge) (e : Edge) (old now : Following) → IsAfter p v es old → now.bus ≡ after old.bus e → now.judged ≡ old.judged
     → OfTrace old.bus old.marks (λ k. IsMarksOf old.bus.plan (numbered_with old.bus (old.judged + 1) e k) now.marks) → IsAfter p v (es ++ e ∷ []) (counted now)
 after_next p v es e old now is made_so same noted_so =
-    let k = numbered (bench p v) es in
-    let edges : edges_in k ≡ old.bus.history = edges_on (bench p v) 0 [] es refl ∙ ap (λ s. s.history) (sym is.bus) in
-    let plan : old.bus.plan ≡ p = ap (λ s. s.plan) is.bus ∙ kept_plan (bench p v) es in
     let n = is.judged in
-    let count : old.judged + 1 ≡ (0 + length es) + 1 = omega (arith, n) in
+    let next = on_next p v es old.bus old.marks (record { kept_so = is.bus; marked = is.marks }) e (old.judged + 1) now.bus now.marks (ap (λ m. m + 1) n) made_so noted_so in
     record {
-      bus = made_so ∙ ap (λ s. after s e) is.bus ∙ sym (kept_append (bench p v) es (e ∷ []));
+      bus = next.kept_so;
       judged = (let more = length-append es (e ∷ []) in omega (arith, n, same, more));
-      marks =
-          subst (λ (q : Plan). IsMarksOf q (numbered (bench p v) (es ++ e ∷ [])) now.marks) plan
-          (subst (λ (m : Numbered). IsMarksOf old.bus.plan m now.marks)
-          (ap (λ i. numbered_with old.bus i e k) count ∙ ap (λ s. numbered_with s ((0 + length es) + 1) e k) is.bus ∙ sym (numbered_append (bench p v) 0 [] es (e ∷ [])))
-          (noted_so k edges (subst (λ (q : Plan). IsMarksOf q k old.marks) (sym plan) is.marks)));
+      marks = next.marked;
     }
 
 -- a refused edge is not noted
-pub after_next_refused : (p : Plan) (v : Version) (es : List Edge) (e : Edge) (old now : Following) → IsAfter p v es old → now.bus ≡ after old.bus e → now.judged ≡ old.judged
-    → now.marks ≡ old.marks → is_ok (verdict old.bus e) ≡ false
-    → IsAfter p v (es ++ e ∷ []) (counted now)
-after_next_refused p v es e old now is made_so same marks refused =
-    after_next p v es e old now is made_so same
-    (λ k edges of. subst (λ (m : Marks). IsMarksOf old.bus.plan (numbered_with old.bus (old.judged + 1) e k) m) (sym marks)
-    (subst (λ (l : Numbered). IsMarksOf old.bus.plan l old.marks) (sym (numbered_refused (is_ok (verdict old.bus e)) (old.judged + 1) e k refused)) of))
+pub noted_refused : (b : State) (n : ℕ) (e : Edge) (old now : Marks) → now ≡ old → is_ok (verdict b e) ≡ false
+    → OfTrace b old (λ k. IsMarksOf b.plan (numbered_with b n e k) now)
+noted_refused b n e old now same refused =
+    λ k edges of. subst (λ (m : Marks). IsMarksOf b.plan (numbered_with b n e k) m) (sym same)
+    (subst (λ (l : Numbered). IsMarksOf b.plan l old) (sym (numbered_refused (is_ok (verdict b e)) n e k refused)) of)
 
 -- ---- in the loops over edges
 
 pub next_list : (before es : List Edge) (i : ℕ) (d : Edge) → i < length es → (before ++ take i es) ++ (get_or es i d ∷ []) ≡ before ++ take (i + 1) es
 next_list before es i d h = append_assoc before (take i es) (get_or es i d ∷ []) ∙ ap (λ l. before ++ l) (sym (take_more es i d h))
 
-ok_none : (n : ℕ) (j : Judgement) → is_ok j ≡ true → or_refusal n j None ≡ None
-ok_none n (Ok u) h = refl
-ok_none n (Err r) h = absurd cc
-
--- none is refused, with the next one
-pub none_more : (p : Plan) (v : Version) (es : List Edge) (e : Edge) (mid : Following) → IsAfter p v es mid → first_refusal 1 (bench p v) es ≡ None → is_ok (verdict mid.bus e) ≡ true
-    → first_refusal 1 (bench p v) (es ++ e ∷ []) ≡ None
-none_more p v es e mid is none accepted =
-    refusal_behind 1 (bench p v) es (e ∷ []) none ∙ ap (λ s. first_refusal (1 + length es) s (e ∷ [])) (sym is.bus) ∙ ok_none (1 + length es) (verdict mid.bus e) accepted
-
-split_at : (es : List Edge) (i : ℕ) (d : Edge) → i < length es → es ≡ take i es ++ (get_or es i d ∷ drop (i + 1) es)
-split_at es i d h = sym (take-append-drop i es) ∙ ap (λ l. take i es ++ l) (drop_more es i d h)
-
-pub refused_same : {A E : Type 0} (r : Result A E) (now mid : Following) → is_ok r ≡ false → OnErr r (now ≡ mid) → now ≡ mid
-refused_same (Ok a) now mid is h = absurd cc
-refused_same (Err e) now mid is h = h
-
--- the first that is refused
-pub comes_to_refused : (first mid now : Following) (es : List Edge) (i : ℕ) (d : Edge) (r : Result (Option Delivery) Refused) → i < length es → mid.judged ≡ first.judged + i
-    → OfUnasked None first (λ p v before. (first_refusal 1 (bench p v) (before ++ take i es) ≡ None) × IsAfter p v (before ++ take i es) mid)
-    → is_ok (verdict mid.bus (get_or es i d)) ≡ false → r ≡ answer mid.bus (get_or es i d) → now ≡ mid → ComesTo None first es (record { edge = get_or es i d; answer = r }) now
-comes_to_refused first mid now es i d r h count after_so refused answered same = record {
-  front = take i es;
-  rest = drop (i + 1) es;
-  split = split_at es i d h;
-  answered = answered ∙ ap (λ (f : Following). answer f.bus (get_or es i d)) (sym same);
-  count = ap (λ (f : Following). f.judged) same ∙ count ∙ ap (λ n. first.judged + n) (sym (length-take-le i es (omega arith)));
-  asked = λ p v before is none. let at = after_so p v before is none in
-      ((at.0, ap (λ s. is_ok (verdict s (get_or es i d))) (sym at.1.bus) ∙ refused), subst (IsAfter p v (before ++ take i es)) (sym same) at.1);
-}
-
--- the n-th of the trace
-pub comes_to_number : (n : ℕ) (first now : Following) (es : List Edge) (i : ℕ) (e : Edge) (r : Result (Option Delivery) Refused) → i < length es → e ≡ get_or es i e → n ≡ now.judged + 1
-    → now.judged ≡ first.judged + i
-    → OfAfter first (λ p v before. IsAfter p v (before ++ take i es) now) → r ≡ answer now.bus e → ComesTo (Some n) first es (record { edge = e; answer = r }) now
-comes_to_number n first now es i e r h at is count after_so answered = record {
-  front = take i es;
-  rest = drop (i + 1) es;
-  split = split_at es i e h ∙ ap (λ x. take i es ++ (x ∷ drop (i + 1) es)) (sym at);
-  answered = answered;
-  count = count ∙ ap (λ m. first.judged + m) (sym (length-take-le i es (omega arith)));
-  asked = λ p v before was unasked. let one = after_so p v before was in (is ∙ ap (λ m. m + 1) one.judged, one);
+-- a refused edge leaves the bus and the marks as they were
+pub on_stays : {A E : Type 0} (p : Plan) (v : Version) (es : List Edge) (b now : State) (m noted : Marks) (r : Result A E) → is_ok r ≡ false → OnErr r ((now ≡ b) × (noted ≡ m)) → IsOn p v es b m
+    → IsOn p v es now noted
+on_stays p v es b now m noted (Ok a) is_err h is = absurd cc
+on_stays p v es b now m noted (Err e) is_err h is = record {
+  kept_so = h.0 ∙ is.kept_so;
+  marked = subst (λ (n : Marks). IsMarksOf p (numbered (bench p v) es) n) (sym h.1) is.marked;
 }
 
 version_by : (t : Bool) (b : State) (e : Edge) → (if t then made b e else b).version ≡ b.version

@@ -1,113 +1,56 @@
 //! Explaining an edge of a trace: why it is accepted or refused.
-ghost use Rattle.std.specs.Prelude.{◌≡◌, ◌+◌, ◌<◌, ◌^◌, Some, IsTrue, OnOk, OnErr, IfOk, IfErr};
-ghost use Rattle.std.specs.Io.KnownBytes.{Appends, Keeps};
-ghost use Rattle.vme_model.specs.Signals.{is_well_formed};
-ghost use Rattle.vme_model.specs.Deliveries.{answer};
-ghost use Rattle.vme_trace.specs.Writing.{AppendsFront};
-ghost use Rattle.vme_reading.specs.Streams.{streams, ReadNothing, WroteNothing};
 ghost use Rattle.vme_reading.specs.Outcomes.{LentAsking};
-ghost use Rattle.vme_following.specs.Explaining.{Explains, ExplainsInput, IsUnasked, edge_status};
-ghost use Rattle.vme_following.specs.Followed.{IsAfter, OfAfter, printed_answer, why_behind};
+ghost use Rattle.vme_reading.specs.Streams.{streams, ReadNothing, WroteNothing};
+ghost use Rattle.vme_following.specs.Explaining.{ExplainsInput, WritesWhy};
+ghost use Rattle.vme_following.specs.Followed.{IsOn};
 
-use crate::following::{Following, Found, Printed, status_of};
+use crate::following::step_marked;
+use crate::printing::print_at_edge;
 use std::alloc::Global;
 use std::io::{Read, Write};
 use vme_bus::Bus;
-use vme_check::{Finding, write_finding};
-use vme_explain::write_why;
+use vme_explain::{Marks, write_why};
 use vme_model::Edge;
-use vme_reading::{EngineFault, Judge, Status, read};
+use vme_reading::{Asked, AtEdge, EngineFault, Status};
 use vme_trace::{Fault, flush};
 
-/// Writes the block of the edge that was found, and has the writer hand on what it holds back. The
-/// status says whether the edge is refused.
-fn write_explained<W: Write>(
-    following: &Following,
-    found: &Found,
-    out: &mut W,
-) -> Result<Status, Fault>
-    requires room { following.now.judged + 1 < 2 ^ 64 }
-    requires well_formed { IsTrue (is_well_formed found.now.edge) }
-    requires answered { found.now.answer ≡ answer following.now.bus found.now.edge }
-    ensures status { IfOk result
-        (λ status. status ≡ edge_status following.now.bus found.now.edge) }
-    ensures ok { OnOk result (OfAfter following.now (λ p v es.
-        Appends (W.contents out.old) (W.contents out.new) (why_behind found.now.edge p v es))) }
-    ensures front { OnErr result (OfAfter following.now (λ p v es.
-        AppendsFront (W.contents out.old) (W.contents out.new)
-        (why_behind found.now.edge p v es))) }
-    ensures fault { IfErr result (λ fault. fault ≡ Fault.Write) }
-{
-    write_why(
-        following.judged + 1,
-        &following.bus,
-        &following.marks,
-        &found.edge,
-        &found.answer,
-        out,
-    )?;
-    flush(out)?;
-    match found.answer {
-        Ok(_) => Ok(Status::Done),
-        Err(_) => Ok(Status::SomeRefused),
-    }
-}
-
-/// An explanation under way.
+/// An explanation under way: the bus, and the numbers of the edges that it accepted.
 #[derive(Drop)]
 struct Explaining {
-    following: Following,
-    /// The number of the edge that is asked for; without one the first that is refused.
-    edge: Option<u64>,
+    bus: Bus,
+    marks: Marks,
 }
 
-impl Judge for Explaining {
-    type Task = Option<u64>;
+impl AtEdge for Explaining {
+    type Task = ();
 
-    type Answer = Printed;
+    type Answer = Status;
 
-    ghost can = { λ _. Unit {0} };
+    ghost stands = { λ p v es now. IsOn p v es now.bus now.marks };
 
-    ghost count = { λ now. now.following.judged };
+    ghost writes = { WritesWhy };
 
-    ghost stands = { λ edge p v es old new now.
-        (now.edge ≡ edge) × Keeps old new
-        × IsUnasked edge p (Some v) es × IsAfter p v es now.following };
+    ghost fails = { λ _. ⊥ };
 
-    ghost leaves = { λ edge p trace s answer. Explains edge p trace s (printed_answer answer) };
-
-    fn begin(task: &Option<u64>, bus: Bus) -> Explaining {
-        let following = Following::new(bus);
+    fn begin(_task: &(), bus: Bus) -> Explaining {
         Explaining {
-            following,
-            edge: *task,
+            bus,
+            marks: Marks::new(),
         }
     }
 
-    fn unbegun(_task: &Option<u64>) {}
+    fn pass(&mut self, n: u64, edge: &Edge) -> Result<bool, Fault> {
+        Ok(step_marked(&mut self.bus, &mut self.marks, n, edge).is_ok())
+    }
 
-    /// Explains the edge that is asked for once it comes, before it is made. At the end of a trace
-    /// without one that is refused, it prints that all are legal.
-    fn take<W: Write>(
-        &mut self,
-        edges: &[Edge],
-        more: Result<bool, Fault>,
-        _paused: bool,
-        out: &mut W,
-    ) -> Result<Option<Printed>, Fault> {
-        if let Some(found) = self.following.follow_to(self.edge, edges) {
-            let status = write_explained(&self.following, &found, out)?;
-            return Ok(Some(Printed::Block(status)));
-        }
-        match (more, self.edge) {
-            (Ok(true), _) => Ok(None),
-            (Ok(false), Some(_)) => Ok(Some(Printed::Beyond(self.following.judged))),
-            (Ok(false), None) => {
-                let edges = self.following.judged;
-                write_finding(Finding::Legal { edges }, out)?;
-                Ok(Some(Printed::Block(Status::Done)))
-            }
-            (Err(fault), _) => Err(fault),
+    /// Writes the block of the edge. The status says whether it is refused.
+    fn write<W: Write>(&mut self, n: u64, edge: &Edge, out: &mut W) -> Result<Status, Fault> {
+        let answer = self.bus.answer(*edge);
+        write_why(n, &self.bus, &self.marks, edge, &answer, out)?;
+        flush(out)?;
+        match answer {
+            Ok(_) => Ok(Status::Done),
+            Err(_) => Ok(Status::SomeRefused),
         }
     }
 }
@@ -135,5 +78,6 @@ pub fn explain<R: Read, W: Write>(
         (W.contents out.old) (W.contents out.new) in
         LentAsking scenario.now (ReadNothing s × WroteNothing s) (ExplainsInput edge s) result }
 {
-    status_of(read::<Explaining, R, W>(alloc, scenario, &edge, trace, out))
+    let asked = Asked { edge, task: () };
+    print_at_edge::<Explaining, R, W>(alloc, scenario, &asked, trace, out)
 }

@@ -1,22 +1,25 @@
-//! A trace that is followed edge by edge, up to the one that an engine waits for.
-ghost use Rattle.std.specs.Prelude.{◌≡◌, ◌+◌, ◌<◌, ◌≤◌, ◌^◌, ◌++◌, ◌∷◌, [], ℕ, length, is_ok, Some, None, Ok, OnErr, IfSome, IfNone};
+//! A trace that is followed edge by edge.
+ghost use Rattle.std.specs.Prelude.{◌≡◌, ◌+◌, ◌<◌, ◌≤◌, ◌^◌, ◌++◌, ◌∷◌, [], ℕ, length, is_ok, Some, Ok, OnErr, IfSome, IfNone};
 ghost use Rattle.vme_model.specs.Plan.{Plan};
 ghost use Rattle.vme_model.specs.declared.signals.Version.{Version};
 ghost use Rattle.vme_model.specs.declared.signals.Wire.TheVariants.{Dtack};
 ghost use Rattle.vme_model.specs.History.{shown};
-ghost use Rattle.vme_model.specs.Verdict.{verdict};
+ghost use Rattle.vme_model.specs.Verdict.{after, verdict};
+ghost use Rattle.vme_model.specs.Numbered.{numbered_with};
 ghost use Rattle.vme_model.specs.Deliveries.{answer};
 ghost use Rattle.vme_events.specs.Events.{events_of};
 ghost use Rattle.vme_events.specs.Ordered.{OfOrdered};
 ghost use Rattle.vme_reading.specs.Outcomes.{bench};
-ghost use Rattle.vme_following.specs.Followed.{IsAfter, OfAfter, Reaches, Seeks, counted, printed_status};
+ghost use Rattle.vme_explain.specs.Marked.{IsMarksOf};
+ghost use Rattle.vme_explain.specs.Traced.{OfTrace};
+ghost use Rattle.vme_following.specs.Followed.{IsAfter, OfAfter, Reaches, counted, printed_status};
 
 use arrayvec::ArrayVec;
 use vme_bus::Bus;
 use vme_events::events_of;
 use vme_explain::Marks;
 use vme_goals::Event;
-use vme_model::{Cycle, Delivery, Driver, Edge, Refused, Wire};
+use vme_model::{Cycle, Delivery, Edge, Refused, Wire};
 use vme_reading::{EngineFault, Status};
 use vme_trace::Fault;
 
@@ -27,13 +30,6 @@ pub enum Printed {
     Block(Status),
     /// The whole trace has so many edges, too few.
     Beyond(u64),
-}
-
-/// An edge that is asked for and not yet made, with the answer to it.
-#[derive(Clone, Copy)]
-pub(crate) struct Found {
-    pub(crate) edge: Edge,
-    pub(crate) answer: Result<Option<Delivery>, Refused>,
 }
 
 /// A trace under way: the bus, and the numbers of the edges that it accepted.
@@ -71,6 +67,44 @@ fn count_up_to(n: Option<u64>, judged: u64, len: usize) -> Option<usize>
     }
 }
 
+/// What is shown, if the edge is one of DTACK*: no other needs it.
+#[inline(always)]
+fn shown_at(bus: &Bus, edge: Edge) -> Option<Cycle>
+    ensures { edge.wire ≡ Dtack → result ≡ shown bus.now.plan bus.now.history }
+{
+    match edge.wire {
+        Wire::Dtack => bus.shown(),
+        _ => None,
+    }
+}
+
+/// Makes the next edge of a trace, the n-th, if it is accepted, and notes it then. Gives the answer
+/// to it.
+#[inline(always)]
+pub fn step_marked(
+    bus: &mut Bus,
+    marks: &mut Marks,
+    n: u64,
+    edge: &Edge,
+) -> Result<Option<Delivery>, Refused>
+    ensures answer { result ≡ answer bus.old edge.now }
+    ensures accepted { is_ok result ≡ is_ok (verdict bus.old edge.now) }
+    ensures state { bus.new ≡ after bus.old edge.now }
+    ensures refused { OnErr result ((bus.new ≡ bus.old) × (marks.new ≡ marks.old)) }
+    ensures noted { OfTrace bus.old marks.old (λ k.
+        IsMarksOf bus.old.plan (numbered_with bus.old n edge.now k) marks.new) }
+{
+    match bus.step(*edge) {
+        Ok(delivery) => {
+            // Such an edge does not change what is shown.
+            let shown = shown_at(bus, *edge);
+            marks.note(edge, n, shown);
+            Ok(delivery)
+        }
+        Err(refused) => Err(refused),
+    }
+}
+
 impl Following {
     /// Before the first edge.
     pub fn new(bus: Bus) -> Following
@@ -81,18 +115,6 @@ impl Following {
             bus,
             marks: Marks::new(),
             judged: 0,
-        }
-    }
-
-    /// What is shown, if the edge is one of DTACK*: no other needs it.
-    #[inline(always)]
-    fn shown_at(&self, edge: Edge) -> Option<Cycle>
-        ensures { edge.wire ≡ Dtack
-            → result ≡ shown self.now.bus.plan self.now.bus.history }
-    {
-        match edge.wire {
-            Wire::Dtack => self.bus.pins(Driver::Controller).shown,
-            _ => None,
         }
     }
 
@@ -115,15 +137,8 @@ impl Following {
         ensures after { OfAfter self.old (λ p v es.
             IsAfter p v (es ++ edge.now ∷ []) (counted self.new)) }
     {
-        match self.bus.step(*edge) {
-            Ok(delivery) => {
-                // Such an edge does not change what is shown.
-                let shown = self.shown_at(*edge);
-                self.marks.note(edge, self.judged + 1, shown);
-                Ok(delivery)
-            }
-            Err(refused) => Err(refused),
-        }
+        let n = self.judged + 1;
+        step_marked(&mut self.bus, &mut self.marks, n, edge)
     }
 
     /// Follows all the edges, past those that are refused.
@@ -135,47 +150,6 @@ impl Following {
         for edge in edges {
             let _ = self.step(edge);
             self.judged += 1;
-        }
-    }
-
-    /// Follows the edges up to the first that is refused, which it gives.
-    fn follow_to_refused(&mut self, edges: &[Edge]) -> Option<Found>
-        requires { self.old.judged + length edges.now < 2 ^ 64 }
-        ensures { Seeks None self.old edges.now self.new result }
-    {
-        for edge in edges {
-            let answer = self.step(edge);
-            if answer.is_err() {
-                return Some(Found {
-                    edge: *edge,
-                    answer,
-                });
-            }
-            self.judged += 1;
-        }
-        None
-    }
-
-    /// Follows the edges up to the n-th of the trace, which it gives.
-    fn follow_to_number(&mut self, n: u64, edges: &[Edge]) -> Option<Found>
-        requires { self.old.judged + length edges.now < 2 ^ 64 }
-        ensures { Seeks (Some n) self.old edges.now self.new result }
-    {
-        let place = self.follow_through(n.checked_sub(1), edges)?;
-        let edge = *edges.get(place)?;
-        let answer = self.bus.answer(edge);
-        Some(Found { edge, answer })
-    }
-
-    /// Follows the edges up to the one that is asked for, which it gives: that of a number, or the
-    /// first that is refused.
-    pub(crate) fn follow_to(&mut self, edge: Option<u64>, edges: &[Edge]) -> Option<Found>
-        requires { self.old.judged + length edges.now < 2 ^ 64 }
-        ensures { Seeks edge self.old edges.now self.new result }
-    {
-        match edge {
-            Some(n) => self.follow_to_number(n, edges),
-            None => self.follow_to_refused(edges),
         }
     }
 

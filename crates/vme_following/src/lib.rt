@@ -7,8 +7,10 @@
 
 mod explains;
 mod following;
+mod printing;
 mod states;
 
 pub use explains::explain;
-pub use following::{Following, Printed, status_of};
+pub use following::{Following, Printed, status_of, step_marked};
+pub use printing::print_at_edge;
 pub use states::state;

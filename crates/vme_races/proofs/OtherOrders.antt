@@ -1,34 +1,26 @@
--- The other order of a race, and what is written of a trace up to the edge that is asked for.
-use Rattle.std.proofs.Common.{◌≡◌, inl, inr, ◌+◌, ◌-◌, ◌++◌, ◌∷◌, [], ℕ, Bool, true, false, List, Option, Some, None, Result, Ok, Err, is_ok, length, take, reverse, refl, sym, ◌∙◌, ap, subst, append_assoc, arith}
-use Rattle.std.specs.Prelude.{slice_get}
+-- The other order of a race.
+use Rattle.std.proofs.Common.{◌≡◌, inl, inr, ◌+◌, ◌-◌, ◌++◌, ◌∷◌, [], ℕ, true, false, List, Some, Result, Ok, Err, is_ok, length, take, reverse, refl, sym, ◌∙◌, ap, subst, append_assoc, arith}
 use mathlib.Core.List.{reverse-cons}
 use Rattle.std.proofs.lemmas.List.{length-append, length-map, length-reverse, map-append, reverse-append}
 use Rattle.std.proofs.Math.Seq.{take-append_seam}
-use Rattle.std.specs.Io.KnownBytes.{Keeps}
-use Rattle.std.proofs.KnownBytes.{Keeps-trans}
 use Rattle.vme_model.specs.declared.signals.Edge.{Edge}
 use Rattle.vme_model.specs.declared.signals.Version.{Version}
 use Rattle.vme_model.specs.History.{in_order}
 use Rattle.vme_model.specs.Numbered.{Numbered, edges_in, numbered}
 use Rattle.vme_model.specs.Plan.{Plan}
-use Rattle.vme_model.specs.Text.{read_of, text}
+use Rattle.vme_model.specs.Text.{text}
 use Rattle.vme_model.specs.Verdict.{Judgement, State, kept, verdict}
-use Rattle.vme_trace.specs.declared.Fault.{Fault}
-use Rattle.vme_trace.specs.declared.Fault.TheVariants.{Write}
-use Rattle.vme_trace.specs.Writing.{AppendsFront}
-use Rattle.vme_reading.specs.Begun.{IsUnread}
-use Rattle.vme_following.specs.Explaining.{IsUnasked}
+use Rattle.vme_trace.specs.declared.Fault.TheVariants.{Memory}
 use Rattle.vme_reading.specs.Outcomes.{bench}
-use Rattle.vme_reading.specs.Pieces.{Came}
-use Rattle.vme_reading.specs.Readings.{LeavesNow}
-use Rattle.vme_reading.specs.Steps.{Begins}
-use Rattle.vme_reading.specs.Streams.{Streams, streams, WroteNothing}
-use Rattle.vme_reading.specs.Waiting.{StopsWaiting}
+use Rattle.vme_reading.specs.declared.EngineFault.{EngineFault}
+use Rattle.vme_reading.specs.declared.EngineFault.TheVariants as fault
+use Rattle.vme_reading.specs.declared.seeking.Found.{Found}
+use Rattle.vme_reading.specs.declared.seeking.Found.TheVariants.{At, Legal}
+use Rattle.vme_reading.specs.declared.seeking.Found.TheVariants as found
+use Rattle.vme_reading.specs.Readings.{ReadsInput, ReadsLent}
+use Rattle.vme_reading.specs.Seeking.{SeeksEdge}
+use Rattle.vme_reading.specs.Streams.{Streams}
 use Rattle.vme_following.proofs.FollowedEdges.{edges_on}
-use Rattle.vme_following.proofs.PrintedBlocks.{explains_end, slice_at}
-use Rattle.vme_reading.proofs.ReadOn.{came_begins}
-use Rattle.vme_reading.proofs.Waits.{stops_unread, waits_now}
-use Rattle.vme_reading.proofs.WrittenLines.{appends_behind, front_after}
 use Rattle.vme_races.specs.declared.other.OtherOrder.{OtherOrder}
 use Rattle.vme_races.specs.declared.other.OtherOrder.TheVariants.{Beyond, NoRace, Written}
 use Rattle.vme_races.specs.declared.racing.Racing.{Racing}
@@ -36,9 +28,8 @@ use Rattle.vme_swaps.specs.declared.stops.Stop.{Stop}
 use Rattle.vme_swaps.specs.declared.stops.Stop.TheVariants.{Races}
 use Rattle.vme_races.specs.declared.walks.Walk.{Walk}
 use Rattle.vme_swaps.specs.Stops.{is_race}
-use Rattle.vme_races.specs.Listed.{AreListed, IsListed, SeeksListed, WritesOrder, before_met}
-use Rattle.vme_races.specs.Other.{HasNoRace, IsOtherOrder, OfNth, Orders}
-use Rattle.vme_races.specs.Sought.{IsMet, Seeks}
+use Rattle.vme_races.specs.Listed.{AreListed, before_met}
+use Rattle.vme_races.specs.Other.{HasNoRace, IsOtherOrder, Orders, WritesOrder}
 use Rattle.vme_races.specs.Walks.{IsWalk, Stops}
 use Rattle.vme_following.proofs.FollowedEdges.{kept_version}
 
@@ -133,125 +124,32 @@ module _ (p : Plan) (v : Version) (before : List Edge) (e : Edge) (racing : Raci
         ok_is (Ok u) is = refl
         ok_is (Err r) is = absurd (cc)
 
-pub order_cut : (p : Plan) (v : Version) (before : List Edge) (e : Edge) (bytes : List ℕ)
-    (old new : Option (List ℕ)) (f : Fault) → f ≡ Write → IsOtherOrder p v before e bytes
-    → AppendsFront old new bytes → WritesOrder p v before e old new (Err f)
-order_cut p v before e bytes old new f write order wrote =
-    subst (λ x. WritesOrder p v before e old new (Err x)) (sym write) (bytes, order, wrote)
+-- ---- what is answered
 
--- ---- the edge that has a number in a trace
+module _ (edge : ℕ) (text : List ℕ) (nothing : Type 0) (s : Streams) where
+  abbrev Sought : Result (Found OtherOrder) EngineFault → Type 0
+  Sought r =
+      ReadsLent text nothing
+      (λ p. ReadsInput (SeeksEdge (WritesOrder p) (λ g. g ≡ Memory) (Some edge) p) s) r
 
-nth : (asked : ℕ) (v : Version) (all : List ℕ) (from to : Option (List ℕ)) (es : List Edge)
-    (more : Result Bool Fault) → Came v all from to es more
-    → (P : Version → List Edge → Edge → Type 0) (e : Edge) (front rest : List Edge)
-    → es ≡ front ++ (e ∷ rest) → asked ≡ length front + 1 → P v front e
-    → OfNth asked (read_of all) P
-nth asked v all from to es more came P e front rest split number holds =
-    let begins : Begins (read_of all) v es = came_begins v all from to es more came in
-    let whole : (read_of all).edges ≡ front ++ (e ∷ (rest ++ begins.others)) =
-    begins.edges ∙ ap (λ l. l ++ begins.others) split
-    ∙ append_assoc front (e ∷ rest) begins.others in
-    let taken : take (length front) (read_of all).edges ≡ front =
-    ap (take (length front)) whole ∙ take-append_seam front (e ∷ (rest ++ begins.others)) in
-    record {
-      version = v;
-      named = begins.version;
-      e = e;
-      at = record {
-        place = length front;
-        number = number;
-        is = ap (λ l. slice_get l (length front)) whole
-            ∙ slice_at front (rest ++ begins.others) e;
-      };
-      holds = subst (λ l. P v l e) (sym taken) holds;
-    }
+  abbrev Ordered : Result OtherOrder EngineFault → Type 0
+  Ordered r = ReadsLent text nothing (λ p. ReadsInput (Orders edge p) s) r
 
--- ---- by the last piece
+  pub orders_at : (order : OtherOrder) → Sought (Ok (At order)) → Ordered (Ok order)
+  orders_at Written h = h
+  orders_at NoRace h = h
+  orders_at (Beyond n) h = absurd h.3.2.holds
 
-module _ (asked : ℕ) (p : Plan) (v : Version) (before es : List Edge) (more : Result Bool Fault)
-    (old mid new : Option (List ℕ)) (kept_so : Keeps old mid) where
-  split_of : (front rest : List Edge) (e : Edge) → es ≡ front ++ e ∷ rest
-      → before ++ es ≡ (before ++ front) ++ e ∷ rest
-  split_of front rest e split =
-      ap (λ l. before ++ l) split ∙ sym (append_assoc before front (e ∷ rest))
+  pub orders_beyond : (n : ℕ) → Sought (Ok (found.Beyond n)) → Ordered (Ok (Beyond n))
+  orders_beyond n h = h
 
-  module _ (now : Racing) (list : List Edge) (e : Edge) (met : IsMet asked p v before es now e)
-      (listed : IsListed now list) where
-    here : (P : Version → List Edge → Edge → Type 0) (all : List ℕ) (from to : Option (List ℕ))
-        → Came v all from to (before ++ es) more → P v (before ++ met.front) e
-        → OfNth asked (read_of all) P
-    here P all from to came holds =
-        nth asked v all from to (before ++ es) more came P e (before ++ met.front) met.rest
-        (split_of met.front met.rest e met.split) met.number holds
+  pub orders_legal : (n : ℕ) → Sought (Ok (Legal n)) → Ordered (Ok (Beyond n))
+  orders_legal n h = absurd (let none = h.3.2.0.none in cc)
 
-    pub orders_by : (a : Result OtherOrder Fault)
-        → ((ds : List Edge) → AreListed p v ds now list → WritesOrder p v ds e mid new a)
-        → LeavesNow (Orders asked p) v (before ++ es) more old new a
-    orders_by (Ok Written) wrote = λ trace from to came.
-        let w = wrote (before ++ met.front) (met.taken, listed) in (
-          w.0,
-          here (λ v before e. IsOtherOrder p v before e w.0) trace from to came w.1,
-          appends_behind old mid new w.0 kept_so w.2,
-        )
-    orders_by (Ok NoRace) wrote = λ trace from to came.
-        let w = wrote (before ++ met.front) (met.taken, listed) in
-        (here (HasNoRace p) trace from to came w.0, Keeps-trans old mid new kept_so w.1)
-    orders_by (Err Write) wrote = λ trace from to came.
-        let w = wrote (before ++ met.front) (met.taken, listed) in
-        inr (inr (
-          refl,
-          w.0,
-          here (λ v before e. IsOtherOrder p v before e w.0) trace from to came w.1,
-          front_after old mid new w.0 kept_so w.2,
-        ))
-    orders_by a wrote = absurd (wrote (before ++ met.front) (met.taken, listed))
-
-  pub orders_stop : (f : Fault) → more ≡ Err f → Keeps mid new
-      → IsUnasked (Some asked) p (Some v) (before ++ es)
-      → LeavesNow (Orders asked p) v (before ++ es) more old new (Err f)
-  orders_stop f is kept_too none = λ trace from to came.
-      inl (
-        waits_now (IsUnasked (Some asked) p) v trace (streams from to old new) (before ++ es) more
-            came none f is,
-        Keeps-trans old mid new kept_so kept_too,
-      )
-
-  pub orders_end : (n : ℕ) → more ≡ Ok false → Keeps mid new
-      → n ≡ length (before ++ es) → IsUnasked (Some asked) p (Some v) (before ++ es)
-      → LeavesNow (Orders asked p) v (before ++ es) more old new (Ok (Beyond n))
-  orders_end n is kept_too count none =
-      explains_end p v before es more old mid new kept_so (Some asked) (Some asked) refl n asked refl
-      is kept_too count none
-
--- ---- before the first edge
-
-waiting : (asked : ℕ) (p : Plan) → IsUnasked (Some asked) p None []
-waiting asked p = λ low. low
-
-pub orders_unbegun : (asked : ℕ) (p : Plan) (trace : List ℕ) (s : Streams) (f : Fault)
-    → WroteNothing s → StopsWaiting IsUnread trace (streams s.from s.to None None) f
-    → Orders asked p trace s (Err f)
-orders_unbegun asked p trace s f kept_so h =
-    inl (stops_unread (IsUnasked (Some asked) p) (waiting asked p) trace s f h, kept_so)
-
--- ---- what a search among the edges of a piece gave
-
-pub met_of : (mine asked : ℕ) → mine ≡ asked → (p : Plan) (v : Version) (before es : List Edge)
-    (now : Racing) (list : List Edge) (e : Edge) (found : Option Edge)
-    → SeeksListed mine p v before es now list found → found ≡ Some e
-    → IsMet asked p v before es now e × IsListed now list
-met_of mine asked same p v before es now list e found sought is = (
-  subst (λ a. Seeks a p v before es now (Some e)) same
-      (subst (Seeks mine p v before es now) is sought.0),
-  sought.1,
-)
-
-pub none_of : (mine asked : ℕ) → mine ≡ asked → (p : Plan) (v : Version) (before es : List Edge)
-    (now : Racing) (list : List Edge) (found : Option Edge)
-    → SeeksListed mine p v before es now list found → found ≡ None
-    → IsUnasked (Some asked) p (Some v) before
-    → AreListed p v (before ++ es) now list × IsUnasked (Some asked) p (Some v) (before ++ es)
-none_of mine asked same p v before es now list found sought is none =
-    let s = subst (λ a. Seeks a p v before es now None) same
-    (subst (Seeks mine p v before es now) is sought.0) in
-    ((s.0, sought.1), s.1 none)
+  pub orders_fault : (f : EngineFault) → Sought (Err f) → Ordered (Err f)
+  orders_fault fault.TooLong h = h
+  orders_fault (fault.Scenario e) h = h
+  orders_fault (fault.Trace f) h = h
+  orders_fault fault.CannotRead h = h
+  orders_fault fault.NoMemory h = h
+  orders_fault (fault.Beyond n) h = h

@@ -20,6 +20,7 @@ use Rattle.vme_trace.specs.Writing.{AppendsFront}
 use Rattle.vme_reading.specs.Outcomes.{bench}
 use Rattle.vme_following.proofs.FollowedEdges.{edges_on, kept_plan, next_list, numbered_append}
 use Rattle.vme_reading.proofs.WrittenLines.{front_behind, kept_append}
+use Rattle.vme_races.specs.declared.judge.Reporting.{Reporting}
 use Rattle.vme_races.specs.declared.racing.Counts.{Counts}
 use Rattle.vme_races.specs.declared.racing.Racing.{Racing}
 use Rattle.vme_races.specs.declared.walks.Walk.{Walk}
@@ -167,35 +168,26 @@ module _ (p : Plan) (v : Version) (es : List Edge) (e : Edge) where
       ap (λ m. if t then (m, e) ∷ k else k) count ∙ ap (λ b. if b then (length es + 1, e) ∷ k else k) (sym is) ∙ sym numbered_next
 
   module _ (walks : List Walk) (old now : Racing) (is : IsKept p v es walks old)
-      (bus : now.bus ≡ after old.bus e) (count : now.judged ≡ old.judged + 1) where
+      (bus : now.bus ≡ after old.bus e) (n : ℕ) (number : n ≡ length es + 1) where
     bus_next : now.bus ≡ kept (bench p v) (es ++ e ∷ [])
     bus_next = bus ∙ ap (λ s. after s e) is.bus ∙ sym (kept_append (bench p v) es (e ∷ []))
-
-    judged_next : now.judged ≡ length (es ++ e ∷ [])
-    judged_next =
-        let was = is.judged in
-        let more = length-append es (e ∷ []) in omega (arith, was, count, more)
-
-    number_is : old.judged + 1 ≡ length es + 1
-    number_is = ap (λ m. m + 1) is.judged
 
     judged_there : (t : Bool) → is_ok (verdict old.bus e) ≡ t → is_ok (verdict (kept (bench p v) es) e) ≡ t
     judged_there t ok = ap (λ s. is_ok (verdict s e)) (sym is.bus) ∙ ok
 
     -- the next edge is accepted
     pub advances_accepted : (walk : Walk) (line : List ℕ) → is_ok (verdict old.bus e) ≡ true
-        → AreLast v p ((old.judged + 1, e) ∷ numbered (bench p v) es) now.recent
+        → AreLast v p ((n, e) ∷ numbered (bench p v) es) now.recent
         → IsOnPlan v p now.passing
         → IsCounted (walk ∷ walks) now.counts → IsWalk v p e (numbered (bench p v) es) walk
-        → line ≡ race_line (old.judged + 1) e walk.stop → Advances p v es walks e line now
+        → line ≡ race_line n e walk.stop → Advances p v es walks e line now
     advances_accepted walk line ok last passing counts goes text =
         let k = numbered (bench p v) es in
         let there = judged_there true ok in
-        let all : (old.judged + 1, e) ∷ k ≡ numbered (bench p v) (es ++ e ∷ []) = numbered_by true (old.judged + 1) there number_is in (
+        let all : (n, e) ∷ k ≡ numbered (bench p v) (es ++ e ∷ []) = numbered_by true n there number in (
           walk ∷ walks,
           record {
             bus = bus_next;
-            judged = judged_next;
             last = subst (λ (m : Numbered). AreLast v p m now.recent) all last;
             passing = passing;
             counts = counts;
@@ -210,11 +202,10 @@ module _ (p : Plan) (v : Version) (es : List Edge) (e : Edge) where
         → Advances p v es walks e line now
     advances_refused line empty refused recent passing counts =
         let k = numbered (bench p v) es in
-        let all : k ≡ numbered (bench p v) (es ++ e ∷ []) = numbered_by false (old.judged + 1) (judged_there false refused) number_is in (
+        let all : k ≡ numbered (bench p v) (es ++ e ∷ []) = numbered_by false n (judged_there false refused) number in (
           walks,
           record {
             bus = bus_next;
-            judged = judged_next;
             last = subst (λ (m : Numbered). AreLast v p m now.recent) all (subst (AreLast v p k) (sym recent) is.last);
             passing = subst (IsOnPlan v p) (sym passing) is.passing;
             counts = subst (IsCounted walks) (sym counts) is.counts;
@@ -256,16 +247,26 @@ kind_there p v es b s kind is state of = (s, state_there p v es b s is state, sy
 -- ---- in the loop over edges
 
 module _ (p : Plan) (v : Version) (before es : List Edge) (i : ℕ) (d : Edge) (h : i < length es)
-    (first a b : Option (List ℕ)) (old now : Racing) (line : List ℕ)
-    (on : (walks : List Walk) → IsKept p v (before ++ take i es) walks old → Advances p v (before ++ take i es) walks (get_or es i d) line now)
+    (first a b : Option (List ℕ)) (old now : Reporting) (line : List ℕ)
+    (count : now.judged ≡ old.judged + 1)
+    (on : (walks : List Walk) → IsKept p v (before ++ take i es) walks old.racing
+    → old.judged + 1 ≡ length (before ++ take i es) + 1
+    → Advances p v (before ++ take i es) walks (get_or es i d) line now.racing)
     (stands : Stands p v (before ++ take i es) first a old) where
-  next : Advances p v (before ++ take i es) stands.0 (get_or es i d) line now
-  next = on stands.0 stands.1
+  next : Advances p v (before ++ take i es) stands.0 (get_or es i d) line now.racing
+  next = on stands.0 stands.1 (ap (λ n. n + 1) stands.2)
 
   pub stands_next : Appends a b line → Stands p v (before ++ take (i + 1) es) first b now
   stands_next more =
-      subst (λ (l : List Edge). Stands p v l first b now) (next_list before es i d h)
-      (next.0, next.1, subst (Appends first b) (sym next.2) (Appends-trans first a b (race_lines (numbered (bench p v) (before ++ take i es)) stands.0) line stands.2 more))
+      let longer = length-append (before ++ take i es) (get_or es i d ∷ []) in
+      subst (λ (l : List Edge). Stands p v l first b now) (next_list before es i d h) (
+        next.0,
+        next.1,
+        count ∙ ap (λ n. n + 1) stands.2 ∙ sym longer,
+        subst (Appends first b) (sym next.2)
+            (Appends-trans first a b (race_lines (numbered (bench p v) (before ++ take i es)) stands.0)
+            line stands.3 more),
+      )
 
   -- the line was cut off
   pub breaks_cut : (f : Fault) → f ≡ Write → AppendsFront a b line → Breaks p v before es first b f
@@ -276,11 +277,11 @@ module _ (p : Plan) (v : Version) (before es : List Edge) (i : ℕ) (d : Edge) (
     race_lines (numbered (bench p v) ((before ++ take i es) ++ get_or es i d ∷ [])) next.0,
     subst (λ (l : List Edge). AreLines p (Some v) l (race_lines (numbered (bench p v) ((before ++ take i es) ++ get_or es i d ∷ [])) next.0))
         (next_list before es i d h) (next.0, next.1.walked, refl),
-    inr (is, subst (AppendsFront first b) (sym next.2) (front_behind first a b (race_lines (numbered (bench p v) (before ++ take i es)) stands.0) line stands.2 more)),
+    inr (is, subst (AppendsFront first b) (sym next.2) (front_behind first a b (race_lines (numbered (bench p v) (before ++ take i es)) stands.0) line stands.3 more)),
   )
 
 -- there was no memory for the next edge
-pub breaks_unheld : (p : Plan) (v : Version) (before es : List Edge) (i : ℕ) (first a : Option (List ℕ)) (old : Racing)
+pub breaks_unheld : (p : Plan) (v : Version) (before es : List Edge) (i : ℕ) (first a : Option (List ℕ)) (old : Reporting)
     → Stands p v (before ++ take i es) first a old → (f : Fault) → f ≡ Memory → Breaks p v before es first a f
 breaks_unheld p v before es i first a old stands f is = (
   take i es,
@@ -288,5 +289,5 @@ breaks_unheld p v before es i first a old stands f is = (
   sym (take-append-drop i es),
   race_lines (numbered (bench p v) (before ++ take i es)) stands.0,
   (stands.0, stands.1.walked, refl),
-  inl (is, stands.2),
+  inl (is, stands.3),
 )

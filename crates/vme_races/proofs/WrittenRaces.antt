@@ -25,6 +25,7 @@ use Rattle.vme_following.proofs.FollowedEdges.{edges_on}
 use Rattle.vme_reading.proofs.ReadOn.{came_begins}
 use Rattle.vme_reading.proofs.Waits.{stops_unread, waits_now}
 use Rattle.vme_reading.proofs.WrittenLines.{appends_behind, front_behind, front_kept, front_of_all}
+use Rattle.vme_races.specs.declared.judge.Reporting.{Reporting}
 use Rattle.vme_races.specs.declared.racing.Racing.{Racing}
 use Rattle.vme_races.specs.declared.walks.Walk.{Walk}
 use Rattle.vme_races.specs.Lines.{counts_text, last_line, race_lines, races_in, waits_in}
@@ -64,7 +65,7 @@ module _ (p : Plan) (v : Version) (before es : List Edge) (more : Result Bool Fa
 
 -- ---- by the last piece
 
-module _ (p : Plan) (v : Version) (es : List Edge) (more : Result Bool Fault) (old mid new : Option (List ℕ)) (now : Racing) where
+module _ (p : Plan) (v : Version) (es : List Edge) (more : Result Bool Fault) (old mid new : Option (List ℕ)) (now : Reporting) where
   module _ (stands : Stands p v es old mid now) where
     pub unflushed_now : (f : Fault) → f ≡ Write → Keeps mid new → LeavesNow (λ trace s a. Reports p trace s (traced a)) v es more old new (Err f)
     unflushed_now f is keeps = λ trace from to came.
@@ -78,7 +79,7 @@ module _ (p : Plan) (v : Version) (es : List Edge) (more : Result Bool Fault) (o
             begins.edges,
             bytes,
             subst (λ (w : Option Version). AreLines p w es bytes) (sym begins.version) (stands.0, stands.1.walked, refl),
-            front_kept old mid new bytes stands.2 keeps,
+            front_kept old mid new bytes stands.3 keeps,
           ),
         )
 
@@ -86,10 +87,10 @@ module _ (p : Plan) (v : Version) (es : List Edge) (more : Result Bool Fault) (o
     stop_now f is keeps = λ trace from to came.
         let bytes = race_lines (numbered (bench p v) es) stands.0 in
         inl (waits_now (Waits p (streams from to old new)) v trace (streams from to old new) es more came
-        (bytes, (stands.0, stands.1.walked, refl), Appends-kept old mid new bytes stands.2 keeps) f is)
+        (bytes, (stands.0, stands.1.walked, refl), Appends-kept old mid new bytes stands.3 keeps) f is)
 
     pub stands_kept : Keeps mid new → Stands p v es old new now
-    stands_kept keeps = (stands.0, stands.1, Appends-kept old mid new (race_lines (numbered (bench p v) es) stands.0) stands.2 keeps)
+    stands_kept keeps = (stands.0, stands.1, stands.2, Appends-kept old mid new (race_lines (numbered (bench p v) es) stands.0) stands.3 keeps)
 
   at_end : (trace : List ℕ) (from to : Option (List ℕ)) → more ≡ Ok false → Came v trace from to es more → Came v trace from to es (Ok false)
   at_end trace from to is came = subst (Came v trace from to es) is came
@@ -140,15 +141,16 @@ module _ (p : Plan) (v : Version) (es : List Edge) (walks : List Walk) (now : Ra
       ∙ ap (λ n. counts_text many (races_in walks) n now.counts.free) is.counts.waits
       ∙ ap (λ n. counts_text many (races_in walks) (waits_in walks) n) is.counts.free
 
-  pub refused_is : now.judged - length now.bus.history ≡ refused_count p (Some v) es
-  refused_is =
+  pub refused_is : (judged : ℕ) → judged ≡ length es
+      → judged - length now.bus.history ≡ refused_count p (Some v) es
+  refused_is judged count =
       let none : length (kept (bench p v) es).history - 0 ≡ length (kept (bench p v) es).history = omega arith in
-      ap (λ n. n - length now.bus.history) is.judged ∙ ap (λ s. length es - length s.history) is.bus ∙ ap (λ n. length es - n) (sym none)
+      ap (λ n. n - length now.bus.history) count ∙ ap (λ s. length es - length s.history) is.bus ∙ ap (λ n. length es - n) (sym none)
 
-module _ (p : Plan) (v : Version) (es : List Edge) (first old new : Option (List ℕ)) (now : Racing) (stands : Stands p v es first old now) (line : List ℕ)
-    (is : line ≡ counts_text (length now.bus.history) now.counts.races now.counts.waits now.counts.free) where
+module _ (p : Plan) (v : Version) (es : List Edge) (first old new : Option (List ℕ)) (now : Reporting) (stands : Stands p v es first old now) (line : List ℕ)
+    (is : line ≡ counts_text (length now.racing.bus.history) now.racing.counts.races now.racing.counts.waits now.racing.counts.free) where
   line_is : line ≡ last_line (numbered (bench p v) es) stands.0
-  line_is = is ∙ last_is p v es stands.0 now stands.1
+  line_is = is ∙ last_is p v es stands.0 now.racing stands.1
 
   pub ends : (next : Option (List ℕ)) → Appends old next line → Keeps next new → Ends p v es first new
   ends next wrote keeps =
@@ -156,7 +158,7 @@ module _ (p : Plan) (v : Version) (es : List Edge) (first old new : Option (List
         lines ++ last_line (numbered (bench p v) es) stands.0,
         (stands.0, stands.1.walked, refl),
         Appends-kept first next new (lines ++ last_line (numbered (bench p v) es) stands.0)
-            (Appends-trans first old next lines (last_line (numbered (bench p v) es) stands.0) stands.2 (subst (Appends old next) line_is wrote)) keeps,
+            (Appends-trans first old next lines (last_line (numbered (bench p v) es) stands.0) stands.3 (subst (Appends old next) line_is wrote)) keeps,
       )
 
   pub ends_unflushed : (next : Option (List ℕ)) → Appends old next line → Keeps next new → EndsCut p v es first new
@@ -169,5 +171,5 @@ module _ (p : Plan) (v : Version) (es : List Edge) (first old new : Option (List
       let lines = race_lines (numbered (bench p v) es) stands.0 in (
         lines ++ last_line (numbered (bench p v) es) stands.0,
         (stands.0, stands.1.walked, refl),
-        front_behind first old new lines (last_line (numbered (bench p v) es) stands.0) stands.2 (subst (AppendsFront old new) line_is wrote),
+        front_behind first old new lines (last_line (numbered (bench p v) es) stands.0) stands.3 (subst (AppendsFront old new) line_is wrote),
       )

@@ -10,6 +10,7 @@ use Rattle.vme_trace.specs.declared.Fault.{Fault}
 use Rattle.vme_trace.specs.declared.Fault.TheVariants.{Memory, Write}
 use Rattle.vme_trace.specs.Writing.{AppendsFront}
 use Rattle.vme_reading.specs.Outcomes.{bench}
+use Rattle.vme_races.specs.declared.judge.Reporting.{Reporting}
 use Rattle.vme_races.specs.declared.earlier.Earlier.{Earlier}
 use Rattle.vme_races.specs.declared.recent.Recent.{Recent}
 use Rattle.vme_races.specs.declared.racing.Counts.{Counts}
@@ -60,11 +61,14 @@ pub record IsCounted (walks : List Walk) (now : Counts) : Type 0 where
 pub record IsKept (p : Plan) (v : Version) (es : List Edge) (walks : List Walk) (now : Racing)
     : Type 0 where
   pub bus : now.bus ≡ kept (bench p v) es
-  pub judged : now.judged ≡ length es
   pub last : AreLast v p (numbered (bench p v) es) now.recent
   pub passing : IsOnPlan v p now.passing
   pub counts : IsCounted walks now.counts
   pub walked : AreWalks v p (numbered (bench p v) es) walks
+
+-- these edges of a trace were taken in, whatever their walks are
+abbrev pub AreTaken : Plan → Version → List Edge → Racing → Type 0
+AreTaken p v es now = (walks : List Walk) × IsKept p v es walks now
 
 -- the line of an edge that was taken in, the n-th, by what stops it; None if it is refused
 abbrev pub taken_line : ℕ → Edge → Option Stop → List ℕ
@@ -83,9 +87,9 @@ Advances p v es walks e line now =
 
 -- the lines of these edges were written
 abbrev pub Stands :
-    Plan → Version → List Edge → Option (List ℕ) → Option (List ℕ) → Racing → Type 0
+    Plan → Version → List Edge → Option (List ℕ) → Option (List ℕ) → Reporting → Type 0
 Stands p v es old new now =
-    (walks : List Walk) × IsKept p v es walks now
+    (walks : List Walk) × IsKept p v es walks now.racing × (now.judged ≡ length es)
     × Appends old new (race_lines (numbered (bench p v) es) walks)
 
 -- a fault came at one of these edges

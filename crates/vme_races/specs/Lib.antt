@@ -15,7 +15,5 @@ pub mod Other
 pub mod Kinds
 -- words: what is kept of the edges so far
 pub mod Kept
--- words: a trace that is read up to the edge that is asked for
-pub mod Sought
 -- words: a trace whose accepted edges are kept in a list
 pub mod Listed

@@ -1,21 +1,22 @@
 -- What `other_order` writes and answers.
-use Rattle.std.specs.Prelude.{◌≡◌, ◌⊎◌, ◌++◌, ◌∷◌, [], ℕ, List, is_ok, false, take, Some, Result, Ok, Err}
+use Rattle.std.specs.Prelude.{◌≡◌, ◌⊎◌, ◌++◌, ◌∷◌, [], ℕ, List, is_ok, false, Some, Result, Ok, Err}
+use Rattle.std.specs.Io.KnownBytes.{Appends, Keeps}
 use Rattle.vme_model.specs.declared.signals.Version.{Version}
 use Rattle.vme_model.specs.declared.signals.Edge.{Edge}
 use Rattle.vme_model.specs.History.{in_order}
 use Rattle.vme_model.specs.Plan.{Plan}
-use Rattle.vme_model.specs.Numbered.{IsNth, Numbered, edges_in, numbered}
-use Rattle.vme_model.specs.Text.{Reading, read_of, text}
+use Rattle.vme_model.specs.Numbered.{Numbered, edges_in, numbered}
+use Rattle.vme_model.specs.Text.{read_of, text}
 use Rattle.vme_model.specs.Verdict.{Judgement, kept, verdict}
 use Rattle.vme_trace.specs.declared.Fault.{Fault}
 use Rattle.vme_trace.specs.declared.Fault.TheVariants.{Memory, Write}
+use Rattle.vme_trace.specs.Writing.{AppendsFront}
 use Rattle.vme_trace.specs.Texts.{whole}
 use Rattle.vme_reading.specs.declared.EngineFault.TheVariants as fault
 use Rattle.vme_reading.specs.LegalTraces.{IsLegalTrace}
-use Rattle.vme_reading.specs.Streams.{Streams, Wrote, WroteFront, WroteNothing}
+use Rattle.vme_reading.specs.Streams.{Streams, WroteNothing}
 use Rattle.vme_reading.specs.Outcomes.{bench}
-use Rattle.vme_following.specs.Explaining.{Explains, IsUnasked}
-use Rattle.vme_reading.specs.Waiting.{StopsWaiting}
+use Rattle.vme_reading.specs.Seeking.{IsBeyond, OfAsked, SeeksEdge, Writing}
 use Rattle.vme_races.specs.declared.other.OtherOrder.{OtherOrder}
 use Rattle.vme_races.specs.declared.other.OtherOrder.TheVariants.{Beyond, NoRace, Written}
 use Rattle.vme_swaps.specs.declared.stops.Stop.TheVariants.{Races}
@@ -45,32 +46,25 @@ HasNoRace p v before e =
     ⊎ ((walk : Walk) × IsWalk v p e (numbered (bench p v) before) walk
     × (is_race walk.stop ≡ false))
 
--- what holds of the edge that has this number in the trace, and of the edges before it
-pub record OfNth
-    (edge : ℕ) (r : Reading) (P : Version → List Edge → Edge → Type 0)
-    : Type 0 where
-  pub version : Version
-  pub named : r.version ≡ Some version
-  pub e : Edge
-  pub at : IsNth r.edges edge e
-  pub holds : P version (take at.place r.edges) e
+-- The trace of the other order is written, or at X8 a prefix of it; nothing, if there is none.
+abbrev pub WritesOrder : Plan → Writing OtherOrder
+WritesOrder p v before e old new (Ok Written) =
+    (bytes : List ℕ) × IsOtherOrder p v before e bytes × Appends old new bytes
+WritesOrder p v before e old new (Ok NoRace) = HasNoRace p v before e × Keeps old new
+WritesOrder p v before e old new (Ok (Beyond edges)) = ⊥
+WritesOrder p v before e old new (Err f) =
+    (f ≡ Write) × (bytes : List ℕ) × IsOtherOrder p v before e bytes × AppendsFront old new bytes
 
--- What it leaves of a trace on a plan: the trace of the other order, at X8 a prefix of it; if there
--- is none, nothing. X6: there was no memory for the edges.
+-- What it leaves of a trace on a plan if the edge of this number is asked for; if the whole trace
+-- has too few edges, nothing. X6: there was no memory for the edges.
 abbrev pub Orders : ℕ → Plan → List ℕ → Streams → Result OtherOrder Fault → Type 0
-Orders edge p trace s (Ok Written) =
-    (bytes : List ℕ)
-    × OfNth edge (read_of trace) (λ v before e. IsOtherOrder p v before e bytes)
-    × Wrote s bytes
-Orders edge p trace s (Ok NoRace) = OfNth edge (read_of trace) (HasNoRace p) × WroteNothing s
 Orders edge p trace s (Ok (Beyond edges)) =
-    Explains (Some edge) p trace s (Err (fault.Beyond edges))
+    IsBeyond (Some edge) (read_of trace) s edges × WroteNothing s
+Orders edge p trace s (Ok order) =
+    OfAsked (Some edge) p (read_of trace)
+    (λ v before e. WritesOrder p v before e s.old s.new (Ok order))
 Orders edge p trace s (Err f) =
-    (StopsWaiting (IsUnasked (Some edge) p) trace s f × WroteNothing s)
-    ⊎ (((f ≡ Memory) × WroteNothing s)
-    ⊎ ((f ≡ Write) × (bytes : List ℕ)
-    × OfNth edge (read_of trace) (λ v before e. IsOtherOrder p v before e bytes)
-    × WroteFront s bytes))
+    SeeksEdge (WritesOrder p) (λ g. g ≡ Memory) (Some edge) p trace s (Err f)
 
 -- ---- what such a trace is
 

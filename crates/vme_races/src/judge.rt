@@ -1,24 +1,85 @@
 //! Reading a trace, and writing which of its edges race.
-ghost use Rattle.std.specs.Prelude.{◌≡◌, IfErr, IfOk, List, OnErr, Option, Some, ℕ};
+ghost use Rattle.std.specs.Prelude.{◌≡◌, ◌+◌, ◌<◌, ◌^◌, ◌++◌, IfErr, IfOk, IfSome, IsTrue, List, OnErr, OnOk, Option, Some, length, ℕ};
+ghost use Rattle.std.specs.Io.KnownBytes.{Appends};
 ghost use Rattle.vme_model.specs.declared.signals.Edge.{Edge as EdgeValue};
 ghost use Rattle.vme_model.specs.declared.signals.Version.{Version as VersionValue};
+ghost use Rattle.vme_model.specs.Locality.{AreWellFormed};
 ghost use Rattle.vme_model.specs.Plan.{Plan as PlanValue};
+ghost use Rattle.vme_model.specs.Signals.{is_well_formed};
+ghost use Rattle.vme_trace.specs.Writing.{AppendsFront};
 ghost use Rattle.vme_reading.specs.Streams.{ReadNothing, WroteNothing, streams};
 ghost use Rattle.vme_reading.specs.Outcomes.{LentAsking, refused_count, status_with};
 ghost use Rattle.vme_reading.specs.Steps.{traced};
-ghost use Rattle.vme_races.specs.Kept.{EndsCut, Ends, Stands};
+ghost use Rattle.vme_races.specs.Kept.{Breaks, Ends, EndsCut, Stands, taken_line};
+ghost use Rattle.vme_swaps.specs.Stops.{is_formed};
 ghost use Rattle.vme_races.specs.Outcomes.{Reports, ReportsInput};
 
-use crate::lines::last_line;
+use crate::lines::{last_line, race_line};
 use crate::racing::Racing;
 use std::alloc::Global;
 use std::io::{Read, Write};
 use vme_bus::Bus;
 use vme_model::Edge;
 use vme_reading::{EngineFault, Judge, Status, read};
+use vme_swaps::Stop;
 use vme_trace::{Fault, flush, put};
 
-impl Racing {
+/// A trace under way, of which so many edges were judged.
+#[derive(Drop)]
+struct Reporting {
+    racing: Racing,
+    judged: u64,
+}
+
+/// Writes the line of the n-th edge, which was taken in, if it is accepted and races.
+fn write_taken<W: Write>(
+    n: u64,
+    edge: &Edge,
+    stop: Option<Stop>,
+    out: &mut W,
+) -> Result<(), Fault>
+    requires well_formed { IsTrue (is_well_formed edge.now) }
+    requires met { IfSome stop (λ s. IsTrue (is_formed s)) }
+    ensures ok { OnOk result (Appends (W.contents out.old) (W.contents out.new)
+        (taken_line n edge.now stop)) }
+    ensures front { OnErr result (AppendsFront (W.contents out.old) (W.contents out.new)
+        (taken_line n edge.now stop)) }
+    ensures fault { IfErr result (λ fault. fault ≡ Fault.Write) }
+{
+    let Some(stop) = stop else {
+        return Ok(());
+    };
+    if !stop.is_race() {
+        return Ok(());
+    }
+    put(out, race_line(n, edge, &stop).as_slice())
+}
+
+impl Reporting {
+    /// Takes in the next edges, and writes their lines.
+    ///
+    /// # Errors
+    /// X6, and the lines of the edges before were written then; X8, and a prefix of the lines was.
+    fn take_edges<W: Write>(&mut self, edges: &[Edge], out: &mut W) -> Result<(), Fault>
+        requires room { self.old.judged + length edges.now < 2 ^ 64 }
+        requires well_formed { AreWellFormed edges.now }
+        ensures judged { OnOk result (self.new.judged ≡ self.old.judged + length edges.now) }
+        ensures stands { OnOk result ((p : PlanValue) (v : VersionValue) (es : List EdgeValue)
+            (first : Option (List ℕ)) → Stands p v es first (W.contents out.old) self.old
+            → Stands p v (es ++ edges.now) first (W.contents out.new) self.new) }
+        ensures breaks { IfErr result (λ fault. (p : PlanValue) (v : VersionValue)
+            (es : List EdgeValue) (first : Option (List ℕ))
+            → Stands p v es first (W.contents out.old) self.old
+            → Breaks p v es edges.now first (W.contents out.new) fault) }
+    {
+        for edge in edges {
+            self.judged += 1;
+            let stop = self.racing.take_in(self.judged, edge)?;
+            write_taken(self.judged, edge, stop, out)?;
+        }
+        Ok(())
+    }
+
     /// Writes the last line, and has the writer hand on what it holds back. The status says whether
     /// some edge was refused.
     fn finish<W: Write>(&self, out: &mut W) -> Result<Status, Fault>
@@ -33,9 +94,9 @@ impl Racing {
             → EndsCut p v es first (W.contents out.new)) }
         ensures fault { IfErr result (λ fault. fault ≡ Fault.Write) }
     {
-        let accepted = u64::from(self.bus.len());
+        let accepted = u64::from(self.racing.bus.len());
         let refused = self.judged.saturating_sub(accepted);
-        let counts = self.counts;
+        let counts = self.racing.counts;
         let line = last_line(accepted, counts.races, counts.waits, counts.free);
         put(out, line.as_slice())?;
         flush(out)?;
@@ -43,7 +104,7 @@ impl Racing {
     }
 }
 
-impl Judge for Racing {
+impl Judge for Reporting {
     type Task = Global;
 
     type Answer = Status;
@@ -56,8 +117,11 @@ impl Judge for Racing {
 
     ghost leaves = { λ _ p trace s answer. Reports p trace s (traced answer) };
 
-    fn begin(task: &Global, bus: Bus) -> Racing {
-        Racing::new(*task, bus)
+    fn begin(task: &Global, bus: Bus) -> Reporting {
+        Reporting {
+            racing: Racing::new(*task, bus),
+            judged: 0,
+        }
     }
 
     fn unbegun(_task: &Global) {}
@@ -112,5 +176,5 @@ pub fn races<R: Read, W: Write>(
         (W.contents out.old) (W.contents out.new) in
         LentAsking scenario.now (ReadNothing s × WroteNothing s) (ReportsInput s) result }
 {
-    read::<Racing, R, W>(alloc, scenario, &alloc, trace, out)
+    read::<Reporting, R, W>(alloc, scenario, &alloc, trace, out)
 }

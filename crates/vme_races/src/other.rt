@@ -1,18 +1,16 @@
 //! The trace of the other order of a race.
-ghost use Rattle.std.specs.Prelude.{◌≡◌, ◌+◌, ◌<◌, ◌^◌, ◌++◌, ◌∷◌, [], All, IfErr, IfNone, IfOk, IfSome, IsTrue, List, OnErr, OnOk, Some, length};
-ghost use Rattle.std.specs.Io.KnownBytes.{Appends, Keeps};
+ghost use Rattle.std.specs.Prelude.{◌≡◌, ◌++◌, ◌∷◌, [], All, IfErr, IsTrue, List, OnErr, OnOk};
+ghost use Rattle.std.specs.Io.KnownBytes.{Appends};
 ghost use Rattle.vme_model.specs.declared.signals.Edge.{Edge as EdgeValue};
 ghost use Rattle.vme_model.specs.declared.signals.Version.{Version as VersionValue};
-ghost use Rattle.vme_model.specs.Locality.{AreWellFormed};
 ghost use Rattle.vme_model.specs.Plan.{Plan as PlanValue};
 ghost use Rattle.vme_model.specs.Signals.{is_well_formed};
 ghost use Rattle.vme_model.specs.Text.{text};
 ghost use Rattle.vme_trace.specs.Writing.{AppendsFront};
-ghost use Rattle.vme_following.specs.Explaining.{IsUnasked};
 ghost use Rattle.vme_reading.specs.Readings.{ReadsInput, ReadsLent};
 ghost use Rattle.vme_reading.specs.Streams.{ReadNothing, WroteNothing, streams};
-ghost use Rattle.vme_races.specs.Listed.{AreListed, SeeksListed, WritesOrder, before_met};
-ghost use Rattle.vme_races.specs.Other.{Orders};
+ghost use Rattle.vme_races.specs.Listed.{AreListed, before_met};
+ghost use Rattle.vme_races.specs.Other.{Orders, WritesOrder};
 
 use crate::racing::Racing;
 use crate::writing::write_trace;
@@ -20,7 +18,7 @@ use std::alloc::Global;
 use std::io::{Read, Write};
 use vme_bus::Bus;
 use vme_model::Edge;
-use vme_reading::{EngineFault, Judge, read};
+use vme_reading::{Asked, AtEdge, EngineFault, Found, at_edge};
 use vme_store::Code;
 use vme_swaps::Stop;
 use vme_trace::Fault;
@@ -36,74 +34,15 @@ pub enum OtherOrder {
     Beyond(u64),
 }
 
-/// The edge that is asked for, by its number, and the memory for the edges before it.
-#[derive(Clone, Copy)]
-struct Asked {
-    alloc: Global,
-    edge: u64,
-}
-
 /// A trace under way, with its accepted edges in the order of time.
 #[derive(Drop)]
 struct Reordering {
     racing: Racing,
     edges: Vec<Code>,
-    asked: u64,
     ghost formed: { All (λ e. IsTrue (is_well_formed e)) edges.items },
 }
 
 impl Reordering {
-    /// Takes in the next edge, and keeps it if it is accepted.
-    ///
-    /// # Errors
-    /// X6.
-    fn keep(&mut self, edge: &Edge) -> Result<(), Fault>
-        requires room { self.old.racing.judged + 1 < 2 ^ 64 }
-        requires formed { IsTrue (is_well_formed edge.now) }
-        ensures asked { self.new.asked ≡ self.old.asked }
-        ensures judged { OnOk result (self.new.racing.judged ≡ self.old.racing.judged + 1) }
-        ensures kept { OnOk result ((p : PlanValue) (v : VersionValue) (es : List EdgeValue)
-            → AreListed p v es self.old.racing self.old.edges.items
-            → AreListed p v (es ++ edge.now ∷ []) self.new.racing self.new.edges.items) }
-        ensures fault { IfErr result (λ fault. fault ≡ Fault.Memory) }
-    {
-        let before = self.racing.bus.len();
-        let _ = self.racing.take_in(edge)?;
-        if self.racing.bus.len() == before {
-            return Ok(());
-        }
-        match self.edges.push(Code::of(*edge)) {
-            Ok(()) => Ok(()),
-            Err(_) => Err(Fault::Memory),
-        }
-    }
-
-    /// Goes on with the edges up to the one that is asked for, which it gives.
-    ///
-    /// # Errors
-    /// X6.
-    fn seek(&mut self, edges: &[Edge]) -> Result<Option<Edge>, Fault>
-        requires room { self.old.racing.judged + length edges.now < 2 ^ 64 }
-        requires formed { AreWellFormed edges.now }
-        ensures asked { self.new.asked ≡ self.old.asked }
-        ensures judged { IfOk result (λ found. IfNone found
-            (self.new.racing.judged ≡ self.old.racing.judged + length edges.now)) }
-        ensures formed { IfOk result (λ found. IfSome found (λ e. IsTrue (is_well_formed e))) }
-        ensures sought { IfOk result (λ found. (p : PlanValue) (v : VersionValue)
-            (es : List EdgeValue) → AreListed p v es self.old.racing self.old.edges.items
-            → SeeksListed self.old.asked p v es edges.now self.new.racing self.new.edges.items
-            found) }
-        ensures fault { IfErr result (λ fault. fault ≡ Fault.Memory) }
-    {
-        for edge in edges {
-            if self.racing.judged + 1 == self.asked {
-                return Ok(Some(*edge));
-            }
-            self.keep(edge)?;
-        }
-        Ok(None)
-    }
-
     /// Writes the accepted edges before the one that is met, behind which so many are passed, and
     /// then the two in the other order.
     fn write_order<W: Write>(
@@ -148,47 +87,39 @@ impl Reordering {
     }
 }
 
-impl Judge for Reordering {
-    type Task = Asked;
+impl AtEdge for Reordering {
+    type Task = Global;
 
     type Answer = OtherOrder;
 
-    ghost can = { λ _. Unit {0} };
+    ghost stands = { λ p v es now. AreListed p v es now.racing now.edges.items };
 
-    ghost count = { λ now. now.racing.judged };
+    ghost writes = { WritesOrder };
 
-    ghost stands = { λ asked p v es old new now.
-        (now.asked ≡ asked.edge) × Keeps old new × IsUnasked (Some asked.edge) p (Some v) es
-        × AreListed p v es now.racing now.edges.items };
+    ghost fails = { λ fault. fault ≡ Fault.Memory };
 
-    ghost leaves = { λ asked p trace s answer. Orders asked.edge p trace s answer };
-
-    fn begin(task: &Asked, bus: Bus) -> Reordering {
+    fn begin(task: &Global, bus: Bus) -> Reordering {
         Reordering {
-            racing: Racing::new(task.alloc, bus),
-            edges: Vec::new(task.alloc),
-            asked: task.edge,
+            racing: Racing::new(*task, bus),
+            edges: Vec::new(*task),
         }
     }
 
-    fn unbegun(_task: &Asked) {}
+    /// Keeps the edge if it is accepted.
+    fn pass(&mut self, n: u64, edge: &Edge) -> Result<bool, Fault> {
+        let stop = self.racing.take_in(n, edge)?;
+        if stop.is_none() {
+            return Ok(false);
+        }
+        match self.edges.push(Code::of(*edge)) {
+            Ok(()) => Ok(true),
+            Err(_) => Err(Fault::Memory),
+        }
+    }
 
-    /// Writes the trace of the other order, once the edge that is asked for comes.
-    fn take<W: Write>(
-        &mut self,
-        edges: &[Edge],
-        more: Result<bool, Fault>,
-        _paused: bool,
-        out: &mut W,
-    ) -> Result<Option<OtherOrder>, Fault> {
-        if let Some(edge) = self.seek(edges)? {
-            return Ok(Some(self.write_race(&edge, out)?));
-        }
-        match more {
-            Ok(true) => Ok(None),
-            Ok(false) => Ok(Some(OtherOrder::Beyond(self.racing.judged))),
-            Err(fault) => Err(fault),
-        }
+    /// Writes the other order of the race of the edge, if it has one.
+    fn write<W: Write>(&mut self, _n: u64, edge: &Edge, out: &mut W) -> Result<OtherOrder, Fault> {
+        self.write_race(edge, out)
     }
 }
 
@@ -217,6 +148,14 @@ pub fn other_order<R: Read, W: Write>(
         ReadsLent scenario.now (ReadNothing s × WroteNothing s)
         (λ p. ReadsInput (Orders edge p) s) result }
 {
-    let asked = Asked { alloc, edge };
-    read::<Reordering, R, W>(alloc, scenario, &asked, trace, out)
+    let asked = Asked {
+        edge: Some(edge),
+        task: alloc,
+    };
+    match at_edge::<Reordering, R, W>(alloc, scenario, &asked, trace, out) {
+        Ok(Found::At(order)) => Ok(order),
+        // Never all are legal: an edge is asked for by its number.
+        Ok(Found::Beyond(edges) | Found::Legal(edges)) => Ok(OtherOrder::Beyond(edges)),
+        Err(fault) => Err(fault),
+    }
 }

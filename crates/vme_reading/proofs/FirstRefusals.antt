@@ -63,3 +63,17 @@ none_refused n b (e ∷ es) grown = by_verdict (verdict b e) (λ g. none_refused
         → or_refusal n j (first_refusal (n + 1) (if is_ok j then made b e else b) es) ≡ None
     by_verdict (Ok u) others most grown = others (omega (arith, grown))
     by_verdict (Err refused) others most grown = absurd (omega (arith, grown, most))
+
+pub refused_by : (j : Judgement) → is_ok j ≡ false → (r : Refused) × (j ≡ Err r)
+refused_by (Ok u) h = absurd cc
+refused_by (Err r) h = (r, refl)
+
+-- the first that is refused, behind those that are not
+pub first_behind : (b : State) (front rest : List Edge) (e : Edge) (r : Refused)
+    → first_refusal 1 b front ≡ None → verdict (kept b front) e ≡ Err r
+    → first_refusal 1 b (front ++ (e ∷ rest)) ≡ Some (length front + 1, r)
+first_behind b front rest e r none is =
+    refusal_behind 1 b front (e ∷ rest) none
+    ∙ ap (λ j. or_refusal (1 + length front) j
+    (first_refusal ((1 + length front) + 1) (after (kept b front) e) rest)) is
+    ∙ ap (λ n. Some (n, r)) (omega arith)

@@ -22,3 +22,5 @@ pub mod PairReads
 pub mod FirstRefusals
 -- the trace of a legal list is what a check calls legal: src/laws.rt, `drives::drive`
 pub mod LegalTrace
+-- a trace that is read up to the edge that is asked for: src/seeking.rt
+pub mod SoughtEdges

@@ -11,6 +11,8 @@ pub mod Waiting
 pub mod Pairs
 -- believe, for `check`, `explain` and others: the first edge of a trace that is refused
 pub mod Refusals
+-- believe, for `at_edge`: which edge is asked for, and what is left of a trace that is read up to it
+pub mod Seeking
 -- believe, for what writes a trace and for `check`: a whole trace whose edges are a legal list
 pub mod LegalTraces
 -- words, but for `IsNoPlan`, which `plan_of` answers by: what the reads and the pieces of a trace
@@ -26,3 +28,5 @@ pub mod Begun
 pub mod Sides
 -- words: a text that is put together before it is written
 pub mod Texts
+-- words: a trace that is read up to the edge that is asked for
+pub mod Sought

@@ -12,6 +12,7 @@ mod pairs;
 mod pieces;
 mod plans;
 mod readings;
+mod seeking;
 mod texts;
 mod traces;
 
@@ -19,6 +20,7 @@ pub use pairs::{Pair, PairFault, read_pair};
 pub use pieces::{JUDGED_AT_ONCE, buffer_of};
 pub use plans::plan_of;
 pub use readings::{Judge, read, read_on};
+pub use seeking::{Asked, AtEdge, Found, at_edge};
 pub use texts::{hand_on, make_room};
 use thiserror::Error;
 use vme_scenario::ScenarioError;

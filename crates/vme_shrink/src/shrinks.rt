@@ -1,118 +1,73 @@
 //! Shrinking a trace: few edges, and behind them an edge that is answered as before.
-ghost use Rattle.std.specs.Prelude.{◌≡◌, Some, length};
-ghost use Rattle.std.specs.Io.KnownBytes.{Keeps};
-ghost use Rattle.vme_model.specs.Verdict.{State};
-ghost use Rattle.vme_following.specs.Explaining.{IsUnasked};
-ghost use Rattle.vme_reading.specs.Outcomes.{LentAsking};
+ghost use Rattle.std.specs.Prelude.{◌≡◌, Some};
+ghost use Rattle.vme_model.specs.Verdict.{kept};
+ghost use Rattle.vme_reading.specs.Outcomes.{LentAsking, bench};
 ghost use Rattle.vme_reading.specs.Streams.{streams, ReadNothing, WroteNothing};
-ghost use Rattle.vme_shrink.specs.Shrinking.{Shrinks, ShrinksInput};
-ghost use Rattle.vme_shrink.specs.Sought.{IsFront, written_answer, written_status};
+ghost use Rattle.vme_shrink.specs.Shrinking.{ShrinksInput, WritesStory};
 
-use crate::fronts::{seek, write_story};
+use crate::fronts::write_story;
 use std::alloc::Global;
 use std::io::{Read, Write};
 use vme_bus::Bus;
-use vme_check::{Finding, write_finding};
+use vme_following::print_at_edge;
 use vme_model::Edge;
-use vme_reading::{EngineFault, Judge, Status, read};
+use vme_reading::{Asked, AtEdge, EngineFault, Status};
 use vme_stories::{Front, StoryProgress};
 use vme_trace::Fault;
 
-/// What a command answers that writes a trace.
-#[derive(Clone, Copy, PartialEq, Eq, Debug)]
-pub(crate) enum Written {
-    /// The text was written.
-    Text(Status),
-    /// The whole trace has so many edges, too few.
-    Beyond(u64),
-}
-
-/// What is asked for: an edge by its number, or the first that is refused; the memory for it, and
-/// who hears how far the search came.
+/// What a search for a story needs: the memory for it, and who hears how far it came.
 #[derive(Clone, Copy)]
-struct Asked<P> {
+struct Search<P> {
     alloc: Global,
-    edge: Option<u64>,
     progress: P,
 }
 
-/// The answer of the command.
-fn status_of(written: Result<Written, EngineFault>) -> Result<Status, EngineFault>
-    ensures { result ≡ written_status written }
-{
-    match written {
-        Ok(Written::Text(status)) => Ok(status),
-        Ok(Written::Beyond(count)) => Err(EngineFault::Beyond(count)),
-        Err(fault) => Err(fault),
-    }
-}
-
-/// A trace under way, of which so many edges were judged. Once the edge that is asked for has come,
-/// there is no front.
+/// A trace under way. Once the edge that is asked for has come, there is no front.
 #[derive(Drop)]
 struct Shrinking<P> {
-    asked: Asked<P>,
-    judged: u64,
+    search: Search<P>,
     front: Option<Front>,
 }
 
-impl<P: StoryProgress + Copy + Drop> Judge for Shrinking<P> {
-    type Task = Asked<P>;
+impl<P: StoryProgress + Copy + Drop> AtEdge for Shrinking<P> {
+    type Task = Search<P>;
 
-    type Answer = Written;
+    type Answer = Status;
 
-    ghost can = { λ _. Unit {0} };
+    ghost stands = { λ p v es now. now.front ≡ Some (kept (bench p v) es) };
 
-    ghost count = { λ now. now.judged };
+    ghost writes = { WritesStory };
 
-    ghost stands = { λ asked p v es old new now.
-        (now.asked ≡ asked) × Keeps old new × IsUnasked asked.edge p (Some v) es
-        × (now.judged ≡ length es)
-        × ((front : State) × (now.front ≡ Some front) × IsFront p v es front) };
+    ghost fails = { λ fault. fault ≡ Fault.Memory };
 
-    ghost leaves = { λ asked p trace s answer.
-        Shrinks asked.edge p trace s (written_answer answer) };
-
-    fn begin(task: &Asked<P>, bus: Bus) -> Shrinking<P> {
+    fn begin(task: &Search<P>, bus: Bus) -> Shrinking<P> {
         let front = Front::new(task.alloc, bus);
         Shrinking {
-            asked: *task,
-            judged: 0,
+            search: *task,
             front: Some(front),
         }
     }
 
-    fn unbegun(_task: &Asked<P>) {}
-
-    /// Writes the shorter trace once the edge that is asked for comes. At the end of a trace
-    /// without one that is refused, it prints that all are legal.
-    fn take<W: Write>(
-        &mut self,
-        edges: &[Edge],
-        more: Result<bool, Fault>,
-        _paused: bool,
-        out: &mut W,
-    ) -> Result<Option<Written>, Fault> {
-        let Some(mut front) = self.front.take() else {
-            // Never: a judge takes no edges once it has answered.
-            return Err(Fault::Failed);
-        };
-        if let Some(edge) = seek(&mut front, self.asked.edge, self.judged, edges)? {
-            let asked = &mut self.asked;
-            let status = write_story(front, asked.alloc, &edge, out, &mut asked.progress)?;
-            return Ok(Some(Written::Text(status)));
+    fn pass(&mut self, _n: u64, edge: &Edge) -> Result<bool, Fault> {
+        match &mut self.front {
+            Some(front) => match front.step(*edge) {
+                Ok(is_accepted) => Ok(is_accepted),
+                Err(_) => Err(Fault::Memory),
+            },
+            // Never: no edge comes behind the one that is asked for.
+            None => Err(Fault::Memory),
         }
-        self.front = Some(front);
-        self.judged += edges.len() as u64;
-        match (more, self.asked.edge) {
-            (Ok(true), _) => Ok(None),
-            (Ok(false), Some(_)) => Ok(Some(Written::Beyond(self.judged))),
-            (Ok(false), None) => {
-                let edges = self.judged;
-                write_finding(Finding::Legal { edges }, out)?;
-                Ok(Some(Written::Text(Status::Done)))
+    }
+
+    /// Writes the trace of a story of the edge.
+    fn write<W: Write>(&mut self, _n: u64, edge: &Edge, out: &mut W) -> Result<Status, Fault> {
+        match self.front.take() {
+            Some(front) => {
+                let search = &mut self.search;
+                write_story(front, search.alloc, edge, out, &mut search.progress)
             }
-            (Err(fault), _) => Err(fault),
+            // Never: it writes once.
+            None => Err(Fault::Failed),
         }
     }
 }
@@ -144,9 +99,8 @@ pub fn shrink<R: Read, W: Write, P: StoryProgress + Copy + Drop>(
         LentAsking scenario.now (ReadNothing s × WroteNothing s) (ShrinksInput edge s) result }
 {
     let asked = Asked {
-        alloc,
         edge,
-        progress,
+        task: Search { alloc, progress },
     };
-    status_of(read::<Shrinking<P>, R, W>(alloc, scenario, &asked, trace, out))
+    print_at_edge::<Shrinking<P>, R, W>(alloc, scenario, &asked, trace, out)
 }

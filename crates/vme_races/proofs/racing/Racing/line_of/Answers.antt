@@ -7,8 +7,8 @@ use Rattle.vme_races.proofs.TakenIn.{legal_there}
 use Rattle.vme_races.proofs.racing.Racing.line_of.Goals as goal
 
 pub returns-in-Ok : goal.returns-in-Ok
-returns-in-Ok c = λ p v es taken.
-    line_walked p v es c.args.edge.now c.args.self.now taken c.walk_line.result.items c.walk.result
+returns-in-Ok c = λ p v es taken number.
+    line_walked p v es c.args.edge.now c.args.self.now taken c.args.n number c.walk_line.result.items c.walk.result
     (sym c.verdict.ensures ∙ c.in-Ok.is)
     (c.walk.ensures.walk v p (numbered (bench p v) es) taken.1.last taken.1.passing
     (legal_there p v es c.args.edge.now
@@ -16,6 +16,6 @@ returns-in-Ok c = λ p v es taken.
     c.walk_line.ensures
 
 pub returns-in-Err : goal.returns-in-Err
-returns-in-Err c = λ p v es taken.
-    line_refused p v es c.args.edge.now c.args.self.now taken c.refused_line.result.items c.in-Err.refused
+returns-in-Err c = λ p v es taken number.
+    line_refused p v es c.args.edge.now c.args.self.now taken c.args.n number c.refused_line.result.items c.in-Err.refused
     (sym c.verdict.ensures ∙ c.in-Err.is) c.refused_line.ensures
