@@ -38,3 +38,7 @@ pub mod SeenEdges
 pub mod FrontLaws
 -- the laws of how far the acknowledge has come, behind an edge that the probes see
 pub mod FrontSeen
+-- the segments of a grant chain, by their order: `grant_laws`
+pub mod GrantPlaces
+-- how an edge leads from one phase of the grants and BBSY* to the next: `grant_laws`
+pub mod PhaseSteps

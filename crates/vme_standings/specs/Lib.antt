@@ -45,3 +45,5 @@ pub mod Cuts
 pub mod Beginnings
 -- believe: which phases an edge leads to that no probe sees, and how they are gathered
 pub mod Unseen
+-- believe: when a bus is in a phase of the grants and BBSY*, and when a set covers it
+pub mod InPhase

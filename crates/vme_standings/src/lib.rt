@@ -19,6 +19,7 @@ mod cycle;
 mod driving;
 pub mod front_laws;
 mod fronts;
+pub mod grant_laws;
 pub mod grants;
 mod hidden;
 mod interrupters;
