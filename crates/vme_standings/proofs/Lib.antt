@@ -42,3 +42,7 @@ pub mod FrontSeen
 pub mod GrantPlaces
 -- how an edge leads from one phase of the grants and BBSY* to the next: `grant_laws`
 pub mod PhaseSteps
+-- what the rules say of an edge of the grants or BBSY*, by the phase before it: `grant_laws`
+pub mod GrantEdges
+-- the laws of the grants and BBSY*, behind an edge that the probes see
+pub mod GrantSeen

@@ -1,4 +1,3 @@
-use Rattle.vme_standings.proofs.GrantPlaces.{next}
 use Rattle.vme_standings.proofs.PhaseSteps.{begins_idle}
 use Rattle.vme_standings.proofs.grant_laws.power_up_is_idle.Goals as goal
 
