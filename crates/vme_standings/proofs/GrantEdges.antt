@@ -39,11 +39,11 @@ use Rattle.vme_standings.proofs.Tests.{both, never}
 use Rattle.vme_standings.proofs.GrantPlaces.{from_one, has_requester, near, place_low}
 use Rattle.vme_standings.proofs.PhaseSteps.{released as idle_behind, releases_at, stands_at, taken as held_behind}
 
-few : (n : ℕ) → n < 4 → nat_lt n 4 ≡ true
-few n l = grind (arith, nat_tests)
+pub is_few : (n : ℕ) → n < 4 → nat_lt n 4 ≡ true
+is_few n l = grind (arith, nat_tests)
 
 -- the output of a board is its segment
-board_low : (h : List Edge) (c s : ℕ) → 0 < s → is_place_low h c s ≡ drive h (Slot s) BgOut
+pub board_low : (h : List Edge) (c s : ℕ) → 0 < s → is_place_low h c s ≡ drive h (Slot s) BgOut
 board_low h c zero from = absurd (omega arith)
 board_low h c (suc s) from = refl
 
@@ -167,6 +167,6 @@ module _ (version : Version) (p : Plan) (ok : IsAccepted p) (h : List Edge) (s :
         is_in = idle_behind p ok h give_level.level s give_level.in_range give_level.member v (subst (InPhase p h) (give_from covers.phase covers.is_in) covers.is_in);
         member =
           exact.idle give_level.level give_level.in_range
-          ∙ both (nat_lt give_level.level 4) (list_any (can_release p requests old) (active p (grant_chain give_level.level))) (few give_level.level give_level.in_range)
+          ∙ both (nat_lt give_level.level 4) (list_any (can_release p requests old) (active p (grant_chain give_level.level))) (is_few give_level.level give_level.in_range)
           (any_of (can_release p requests old) (active p (grant_chain give_level.level)) s (is_member p (in_range p ok) give_level.level s give_level.in_range give_level.member) give_able);
       }

@@ -46,3 +46,5 @@ pub mod PhaseSteps
 pub mod GrantEdges
 -- the laws of the grants and BBSY*, behind an edge that the probes see
 pub mod GrantSeen
+-- what the rules say of an edge of a grant chain, by the phase before it: `grant_laws`
+pub mod GrantTurns

@@ -5,13 +5,19 @@ use Rattle.std.specs.Option.{option_map_or}
 use Rattle.std.proofs.lemmas.Bool.Decides.{nat_tests}
 use Rattle.vme_model.specs.declared.boards.RequesterRow.{RequesterRow}
 use Rattle.vme_model.specs.declared.signals.Cycle.{Cycle}
+use Rattle.vme_model.specs.declared.signals.Version.{Version}
+use Rattle.vme_model.specs.declared.signals.Driver.{Driver}
 use Rattle.vme_model.specs.declared.signals.Driver.TheVariants.{Controller, Slot}
+use Rattle.vme_model.specs.declared.signals.Wire.{Wire}
 use Rattle.vme_model.specs.declared.signals.Wire.TheVariants.{Bg, BgOut, Bbsy}
 use Rattle.vme_model.specs.declared.signals.Edge.{Edge}
+use Rattle.vme_model.specs.Signals.{grant_level, has_wire, is_grant_wire}
 use Rattle.vme_model.specs.Plan.{Plan}
 use Rattle.vme_model.specs.Accepted.{IsAccepted}
 use Rattle.vme_model.specs.History.{drive, last_level as last_granted}
 use Rattle.vme_model.proofs.Bools.{and_left, and_right, same_number}
+use Rattle.vme_model.specs.Verdict.{IsLegal}
+use Rattle.vme_model.proofs.AllowedEdges.{all_passed}
 use Rattle.vme_model.proofs.Members.{one_chain}
 use Rattle.vme_histories.proofs.AllowedBoards.{at, at_head}
 use Rattle.vme_standings.specs.declared.phases.GrantPhase.{GrantPhase}
@@ -45,17 +51,20 @@ begins_idle p = record {
 upto : (a b : ℕ) → nat_le a b ≡ true → a ≤ b
 upto a b e = grind (arith, nat_tests)
 
-is_upto : (a b : ℕ) → a ≤ b → nat_le a b ≡ true
+pub is_upto : (a b : ℕ) → a ≤ b → nat_le a b ≡ true
 is_upto a b l = grind (arith, nat_tests)
 
-under : (a b : ℕ) → nat_lt a b ≡ true → a < b
+pub under : (a b : ℕ) → nat_lt a b ≡ true → a < b
 under a b e = grind (arith, nat_tests)
 
-equal : (a b : ℕ) → a ≡ b → (a == b) ≡ true
+pub equal : (a b : ℕ) → a ≡ b → (a == b) ≡ true
 equal a b e = grind (arith, nat_tests)
 
 by_order : (a b : ℕ) → (a < b) ⊎ (b ≤ a)
 by_order a b = grind arith
+
+pub few_some : (a b : ℕ) → Some a ≡ Some b → b < 4 → a < 4
+few_some a b e l = let same : a ≡ b = cc in omega (arith, same, l)
 
 -- what the test of a run says of a segment
 in_granting : (c m y last : ℕ) → (c == m && nat_le y last) ≡ true → (c ≡ m) × (y ≤ last)
@@ -64,7 +73,7 @@ in_granting c m y last e = (same_number c m (and_left (c == m) _ e), upto y last
 past_granting : (c m x last : ℕ) → (c == m && nat_le x last) ≡ false → c ≡ m → last < x
 past_granting c m x last e same = grind (arith, nat_tests)
 
-in_expired : (c m y first : ℕ) → (c == m && nat_le first y) ≡ true → (c ≡ m) × (first ≤ y)
+pub in_expired : (c m y first : ℕ) → (c == m && nat_le first y) ≡ true → (c ≡ m) × (first ≤ y)
 in_expired c m y first e = (same_number c m (and_left (c == m) _ e), upto first y (and_right (c == m) _ e))
 
 before_expired : (c m x first : ℕ) → (c == m && nat_le first x) ≡ false → c ≡ m → x < first
@@ -332,3 +341,142 @@ module _ (p : Plan) (ok : IsAccepted p) where
       where
         frees : (s : ℕ) (l : Bool) → l ≡ (x == s) → (if (x == s) then false else l) ≡ false
         frees s l e = grind arith
+
+  -- the controller grants
+  module _ (h : List Edge) where
+    pub idle_in : (q : GrantPhase) → InPhase p h q → last_granted h < 4 → ((m : ℕ) → m < 4 → is_place_low h m 0 ≡ false) → ((s : ℕ) → drive h (Slot s) Bbsy ≡ false)
+        → ((m t : ℕ) → m < 4 → is_of_level p m t ≡ true → is_place_low h m t ≡ false) → q ≡ Idle (last_granted h)
+    idle_in (Idle c) i few high free clear = ap (λ l. Idle l) (same_some c (last_granted h) i.granted)
+      where
+        same_some : (a b : ℕ) → Some a ≡ Some b → a ≡ b
+        same_some a b e = cc
+    idle_in (Granting c last) i few high free clear =
+        let l = few_some c (last_granted h) i.granted few in
+        absurd (never (is_place_low h c 0) (run h (Granting c last) i c 0 l refl ∙ both (c == c) (nat_le 0 last) (equal c c refl) (is_upto 0 last (omega arith))) (high c l))
+    idle_in (Held k first) i few high free clear = absurd (never (k == k) (equal k k refl) (sym (i.held k) ∙ free k))
+    idle_in (Expired c first) i few high free clear =
+        let l = few_some c (last_granted h) i.granted few in
+        absurd (never (is_place_low h c first)
+        (run h (Expired c first) i c first l (board_segment p c first i.named) ∙ both (c == c) (nat_le first first) (equal c c refl) (is_upto first first (omega arith)))
+        (clear c first l i.named))
+
+    pub granted : (n : ℕ) (v : Option Cycle) → (last : ℕ) → InPhase p h (Idle last) → InPhase p (at_head (Bg n) true v ∷ h) (Granting n 0)
+    granted n v last i = record {
+      named = refl;
+      granted = refl;
+      held = λ s. i.held s;
+      low = λ k t few' seg.
+          (head_moves p h n true v).low k t seg
+          ∙ falls_first k n t (is_segment p k t) (is_place_low h k t) (i.low k t few' seg) seg;
+    }
+
+    -- the controller's segment rises: the grant was taken, or it goes back
+    pub data Back (m : ℕ) (q : GrantPhase) : Type 0 where
+      Freed : (k : ℕ) → is_of_level p m k ≡ true → q ≡ Held k 0 → Back m q
+      Waits : (last : ℕ) → q ≡ Granting m last → Back m q
+
+    back_in : (m : ℕ) (q : GrantPhase) → InPhase p h q → is_in_run p m 0 q ≡ true → Back m q
+    back_in m (Idle c) i inside = absurd (cc)
+    back_in m (Granting c last) i inside = Waits last (ap (λ l. Granting l last) (in_granting c m 0 last inside).0)
+    back_in m (Held k first) i inside =
+        let a = in_held (is_of_level p m k) first 0 k inside in
+        let none : first ≡ 0 = omega (arith, a.from) in
+        Freed k a.member (ap (λ t. Held k t) none)
+    back_in m (Expired c first) i inside =
+        let a = in_expired c m 0 first inside in
+        absurd (omega (arith, a.1, from_one p ok c first i.named))
+
+    pub back_at : (m : ℕ) → m < 4 → (q : GrantPhase) → InPhase p h q → is_place_low h m 0 ≡ true → Back m q
+    back_at m few q i low = back_in m q i (sym (run h q i m 0 few refl) ∙ low)
+
+    -- a grant whose last segment is low has passed the last board
+    pub past_all : (m last : ℕ) → m < 4 → InPhase p h (Granting m last) → is_place_low h m (end_place p m) ≡ true → last ≡ end_place p m
+    past_all m last few i low =
+        let a = in_granting m m (end_place p m) last (sym (run h (Granting m last) i m (end_place p m) few (end_segment p ok m few)) ∙ low) in
+        let to = end_last p ok m few last i.named in
+        omega (arith, a.1, to)
+
+    -- behind the rise of a segment
+    module _ (e : Edge) (m x : ℕ) (few : m < 4) (moves : Moves p h e m x false) (same : last_granted (e ∷ h) ≡ last_granted h) (busy : (s : ℕ) → drive (e ∷ h) (Slot s) Bbsy ≡ drive h (Slot s) Bbsy) where
+      gap : (f n t : ℕ) → is_follower p m x f ≡ true → is_segment p n t ≡ true → m ≡ n → t < f → t ≤ x
+      gap f n t follows seg is l = (follower_before p ok m few x f follows).greatest t (subst (λ k. is_segment p k t ≡ true) (sym is) seg) l
+
+      pub upto_holder : (k f : ℕ) → is_of_level p m k ≡ true → x < k → is_follower p m x f ≡ true → f ≤ k
+      upto_holder k f on less follows =
+          ⊎_elim (λ (l : k < f). absurd (omega (arith, gap f m k follows (board_segment p m k on) refl l, less))) (λ (l : f ≤ k). l) (by_order k f)
+
+      pub held_on : (k f : ℕ) → is_of_level p m k ≡ true → x < k → is_follower p m x f ≡ true → InPhase p h (Held k x) → InPhase p (e ∷ h) (Held k f)
+      held_on k f on less follows i = record {
+        named = is_named_held m k f on (board_segment p m f (follower_on p ok m few x f follows)) (upto_holder k f on less follows);
+        granted = i.granted ∙ ap (λ l. Some l) (sym same);
+        held = λ s. busy s ∙ i.held s;
+        low = λ n t few' seg.
+            moves.low n t seg
+            ∙ rises_held n m t x f k (is_segment p n t) (is_of_level p n k) (is_place_low h n t) (i.low n t few' seg) seg (λ is. one_chain p m n k on is)
+            (follower_before p ok m few x f follows).below (gap f n t follows seg);
+      }
+
+      pub expired_on : (f : ℕ) → is_follower p m x f ≡ true → InPhase p h (Expired m x) → InPhase p (e ∷ h) (Expired m f)
+      expired_on f follows i = record {
+        named = follower_on p ok m few x f follows;
+        granted = i.granted ∙ ap (λ l. Some l) (sym same);
+        held = λ s. busy s ∙ i.held s;
+        low = λ n t few' seg.
+            moves.low n t seg
+            ∙ rises_expired n m t x f (is_segment p n t) (is_place_low h n t) (i.low n t few' seg) seg (follower_before p ok m few x f follows).below (gap f n t follows seg);
+      }
+
+      pub expired_last : x ≡ end_place p m → InPhase p h (Expired m x) → InPhase p (e ∷ h) (Idle m)
+      expired_last end i = record {
+        named = refl;
+        granted = i.granted ∙ ap (λ l. Some l) (sym same);
+        held = λ s. busy s ∙ i.held s;
+        low = λ n t few' seg.
+            moves.low n t seg
+            ∙ rises_last n m t x (is_segment p n t) (is_place_low h n t) (i.low n t few' seg)
+            (λ is. subst (λ y. t ≤ y) (sym end) (end_last p ok m few t (subst (λ k. is_segment p k t ≡ true) (sym is) seg)));
+      }
+
+      pub goes_back : (f : ℕ) → x ≡ 0 → is_follower p m x f ≡ true → InPhase p h (Granting m (end_place p m)) → InPhase p (e ∷ h) (Expired m f)
+      goes_back f none follows i = record {
+        named = follower_on p ok m few x f follows;
+        granted = i.granted ∙ ap (λ l. Some l) (sym same);
+        held = λ s. busy s ∙ i.held s;
+        low = λ n t few' seg.
+            moves.low n t seg
+            ∙ ap (λ y. if (n == m && t == y) then false else is_place_low h n t) none
+            ∙ expires_next n m t f (end_place p m) (is_segment p n t) (is_place_low h n t) (i.low n t few' seg) seg
+            (from_one p ok m f (follower_on p ok m few x f follows))
+            (λ is. end_last p ok m few t (subst (λ k. is_segment p k t ≡ true) (sym is) seg))
+            (λ is l. subst (λ y. t ≤ y) none (gap f n t follows seg is l));
+      }
+
+-- an edge of another wire leaves the phase
+pub other_in : (p : Plan) (h : List Edge) (q : GrantPhase) (d : Driver) (w : Wire) (fall : Bool) (v : Option Cycle) → ((n : ℕ) → w ≡ Bg n → ⊥) → (w ≡ BgOut → ⊥) → (w ≡ Bbsy → ⊥)
+    → InPhase p h q → InPhase p (record { driver = d; wire = w; fall = fall; value = v } ∷ h) q
+other_in p h q d (Bg n) fall v a b c i = absurd (a n refl)
+other_in p h q d BgOut fall v a b c i = absurd (b refl)
+other_in p h q d Bbsy fall v a b c i = absurd (c refl)
+other_in p h q d w true v a b c i = record {
+  named = i.named;
+  granted = i.granted;
+  held = λ s. i.held s;
+  low = λ n t few seg. low_same h (record { driver = d; wire = w; fall = true; value = v }) n t refl (λ s. refl) ∙ i.low n t few seg;
+}
+other_in p h q d w false v a b c i = record {
+  named = i.named;
+  granted = i.granted;
+  held = λ s. i.held s;
+  low = λ n t few seg. low_same h (record { driver = d; wire = w; fall = false; value = v }) n t refl (λ s. refl) ∙ i.low n t few seg;
+}
+
+-- the level last granted is one of four
+pub last_few : (version : Version) (p : Plan) (h : List Edge) → IsLegal version p h → last_granted h < 4
+last_few version p [] legal = omega arith
+last_few version p (e ∷ h) legal = by_edge e.driver e.wire e.fall (all_passed version p h e.driver e.wire e.fall e.value legal.0).wire (last_few version p h legal.1)
+  where
+    by_edge : (d : Driver) (w : Wire) (fall : Bool) → has_wire d w ≡ true → last_granted h < 4 → (if (fall && is_grant_wire w) then grant_level w else last_granted h) < 4
+    by_edge Controller (Bg n) true has few = under n 4 has
+    by_edge (Slot s) (Bg n) true has few = absurd (cc)
+    by_edge d w false has few = few
+    by_edge d w true has few = few

@@ -6,11 +6,16 @@ use Rattle.std.specs.Prelude.{◌≡◌, ◌==◌, ◌&&◌, ◌<◌, ℕ, zero,
 use Rattle.std.specs.Option.{option_map_or}
 use Rattle.vme_model.specs.declared.signals.Driver.TheVariants.{Controller, Slot}
 use Rattle.vme_model.specs.declared.signals.Edge.{Edge}
+use Rattle.vme_model.specs.declared.signals.Version.{Version}
 use Rattle.vme_model.specs.declared.signals.Wire.TheVariants.{Bg, BgOut, Bbsy}
 use Rattle.vme_model.specs.declared.sets.BusLevels.{BusLevels}
 use Rattle.vme_model.specs.History.{drive, last_level as last_granted, request_line}
-use Rattle.vme_model.specs.Plan.{Plan}
+use Rattle.vme_model.specs.Plan.{Plan, grant_chain}
 use Rattle.vme_model.specs.Sets.{has_bus_level}
+use Rattle.vme_bus.specs.declared.sets.SlotSet.{SlotSet}
+use Rattle.vme_captures.specs.declared.signals.Pin.{Pin}
+use Rattle.vme_captures.specs.declared.signals.Segment.{Segment}
+use Rattle.vme_captures.specs.Wires.{pin_on}
 use Rattle.vme_standings.specs.declared.phases.GrantPhase.{GrantPhase}
 use Rattle.vme_standings.specs.declared.phases.GrantPhase.TheVariants.{Idle, Granting, Held, Expired}
 use Rattle.vme_standings.specs.declared.phases.GrantPhases.{GrantPhases}
@@ -18,6 +23,7 @@ use Rattle.vme_standings.specs.Cuts.{last_level}
 use Rattle.vme_standings.specs.GrantChains.{is_of_level, requester_at}
 use Rattle.vme_standings.specs.LowSegments.{is_low_in, is_segment}
 use Rattle.vme_standings.specs.Phases.{has_phase, is_held_by}
+use Rattle.vme_standings.specs.Unseen.{has_row_for, is_unseen, leads}
 
 -- the segment of the level's chain is low
 abbrev pub is_place_low : List Edge → ℕ → ℕ → Bool
@@ -50,3 +56,25 @@ pub record CoversGrants (p : Plan) (h : List Edge) (set : GrantPhases) : Type 0 
 -- these are the levels of the BR lines that are low
 abbrev pub AreAsked : Plan → List Edge → BusLevels → Type 0
 AreAsked p h requests = (n : ℕ) → n < 4 → has_bus_level requests n ≡ request_line p h n
+
+-- a segment of a grant chain: the controller's, or that of the slot's board
+abbrev pub grant_segment : ℕ → ℕ → Segment
+grant_segment c zero = record { chain = grant_chain c; place = None }
+grant_segment c (suc s) = record { chain = grant_chain c; place = Some (suc s) }
+
+-- an edge of that segment
+abbrev pub IsOfGrant : Edge → ℕ → ℕ → Type 0
+IsOfGrant e c zero = (e.driver ≡ Controller) × (e.wire ≡ Bg c)
+IsOfGrant e c (suc s) = (e.driver ≡ Slot (suc s)) × (e.wire ≡ BgOut)
+
+-- the rows have a place of each probed segment of the grant chains
+abbrev pub HasProbes : Plan → List Pin → List SlotSet → Type 0
+HasProbes p pins probed =
+    (c s : ℕ) → c < 4 → is_segment p c s ≡ true → pin_on p pins (grant_segment c s) ≡ None
+    → is_unseen probed c s ≡ true
+
+-- the set has the phases to which edges of segments without a probe lead from its own
+abbrev pub HasUnseen : Version → Plan → BusLevels → List SlotSet → GrantPhases → Type 0
+HasUnseen version p requests probed set =
+    (q r : GrantPhase) → has_row_for q ≡ true → leads p version requests probed q r ≡ true
+    → has_phase set q ≡ true → has_phase set r ≡ true
