@@ -48,3 +48,5 @@ pub mod GrantEdges
 pub mod GrantSeen
 -- what the rules say of an edge of a grant chain, by the phase before it: `grant_laws`
 pub mod GrantTurns
+-- which edge moves a segment of a grant chain: `grant_laws`
+pub mod GrantSegments
