@@ -82,7 +82,7 @@ module _ (version : Version) (p : Plan) (ok : IsAccepted p) (h : List Edge) (s :
     abbrev take_passed : Passed version p h (Slot s) Bbsy true v
     take_passed = all_passed version p h (Slot s) Bbsy true v legal.0
 
-    abbrev take_level : HasLevel p h s
+    abbrev pub take_level : HasLevel p h s
     take_level = level_of p (in_range p ok) h s take_passed.exists
 
     abbrev take_tests : (grant_in p h (Slot s) && not (drive h (Slot s) BgOut)) ≡ true
@@ -98,7 +98,7 @@ module _ (version : Version) (p : Plan) (ok : IsAccepted p) (h : List Edge) (s :
         board_low h take_level.level s (from_one p ok take_level.level s take_level.member)
         ∙ not_true (drive h (Slot s) BgOut) (and_right (grant_in p h (Slot s)) (not (drive h (Slot s) BgOut)) take_tests)
 
-    take_from : (q : GrantPhase) → InPhase p h q → q ≡ Granting take_level.level (place_before p take_level.level s)
+    pub take_from : (q : GrantPhase) → InPhase p h q → q ≡ Granting take_level.level (place_before p take_level.level s)
     take_from q i = stands_at p ok h take_level.level s take_level.in_range take_level.member q i take_input take_output take_passed.before
 
     module _ (requests : BusLevels) (asked : AreAsked p h requests) (old : GrantPhases) (covers : CoversGrants p h old) where
@@ -130,7 +130,7 @@ module _ (version : Version) (p : Plan) (ok : IsAccepted p) (h : List Edge) (s :
     abbrev give_passed : Passed version p h (Slot s) Bbsy false v
     give_passed = all_passed version p h (Slot s) Bbsy false v legal.0
 
-    abbrev give_level : HasLevel p h s
+    abbrev pub give_level : HasLevel p h s
     give_level = level_of p (in_range p ok) h s give_passed.exists
 
     give_input : is_place_low h give_level.level (place_before p give_level.level s) ≡ false
@@ -138,8 +138,11 @@ module _ (version : Version) (p : Plan) (ok : IsAccepted p) (h : List Edge) (s :
         sym (place_low p ok give_level.level give_level.in_range h s give_level.member)
         ∙ grant_is p h s give_level false (not_true _ (and_right _ _ (and_left _ _ (and_left _ _ give_passed.rule))))
 
-    give_from : (q : GrantPhase) → InPhase p h q → q ≡ Held s s
+    pub give_from : (q : GrantPhase) → InPhase p h q → q ≡ Held s s
     give_from q i = releases_at p ok h give_level.level s give_level.in_range give_level.member q i give_input give_passed.before
+
+    pub give_to : (q : GrantPhase) → InPhase p h q → InPhase p (at s Bbsy false v ∷ h) (Idle give_level.level)
+    give_to q i = idle_behind p ok h give_level.level s give_level.in_range give_level.member v (subst (InPhase p h) (give_from q i) i)
 
     module _ (requests : BusLevels) (asked : AreAsked p h requests) (old : GrantPhases) (covers : CoversGrants p h old) where
       give_phase : has_phase old (Held s s) ≡ true
@@ -164,7 +167,7 @@ module _ (version : Version) (p : Plan) (ok : IsAccepted p) (h : List Edge) (s :
       pub give_covers : (new : GrantPhases) → HasExactly new (behind_release p requests old) → CoversGrants p (at s Bbsy false v ∷ h) new
       give_covers new exact = record {
         phase = Idle give_level.level;
-        is_in = idle_behind p ok h give_level.level s give_level.in_range give_level.member v (subst (InPhase p h) (give_from covers.phase covers.is_in) covers.is_in);
+        is_in = give_to covers.phase covers.is_in;
         member =
           exact.idle give_level.level give_level.in_range
           ∙ both (nat_lt give_level.level 4) (list_any (can_release p requests old) (active p (grant_chain give_level.level))) (is_few give_level.level give_level.in_range)

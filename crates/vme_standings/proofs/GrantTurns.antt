@@ -75,7 +75,7 @@ module _ (version : Version) (p : Plan) (ok : IsAccepted p) (h : List Edge) (leg
   now = now_of version p range h legal
 
   -- if nobody drives BBSY* it is high
-  free_high : ((s : ℕ) → drive h (Slot s) Bbsy ≡ false) → line p h Bbsy ≡ false
+  pub free_high : ((s : ℕ) → drive h (Slot s) Bbsy ≡ false) → line p h Bbsy ≡ false
   free_high free = is_false (line p h Bbsy) (λ low. let b = holder p range h low in never (drive h (Slot b.0) Bbsy) b.1 (free b.0))
 
   -- nobody took the grant: the second version alone

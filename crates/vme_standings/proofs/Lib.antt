@@ -50,3 +50,7 @@ pub mod GrantSeen
 pub mod GrantTurns
 -- which edge moves a segment of a grant chain: `grant_laws`
 pub mod GrantSegments
+-- the laws of the grant chains, behind an edge that the probes see
+pub mod GrantRows
+-- the law of the grants and BBSY* behind an edge that no probe sees
+pub mod GrantHidden

@@ -3,8 +3,10 @@
 //!
 //! These functions do nothing. Each is a theorem, which its contract states. `old` is what is known
 //! before an edge, and `new` what is known behind it.
-ghost use Rattle.std.specs.Prelude.{◌≡◌, ◌≢◌, ◌∷◌, ◌<◌, ℕ, true, false, Some, None, List, []};
+ghost use Rattle.std.specs.Prelude.{◌≡◌, ◌∷◌, ◌<◌, ℕ, true, false, Some, None, List, []};
+ghost use Rattle.vme_bus.specs.declared.sets.SlotSet.{SlotSet};
 ghost use Rattle.vme_captures.specs.Changes.{seen};
+ghost use Rattle.vme_captures.specs.Wires.{wire_of};
 ghost use Rattle.vme_captures.specs.declared.signals.Change.{Change};
 ghost use Rattle.vme_captures.specs.declared.signals.Line.TheVariants as line;
 ghost use Rattle.vme_captures.specs.declared.signals.Pin.{Pin};
@@ -15,10 +17,12 @@ ghost use Rattle.vme_model.specs.Verdict.{IsLegal};
 ghost use Rattle.vme_model.specs.declared.sets.BusLevels.{BusLevels};
 ghost use Rattle.vme_model.specs.declared.signals.Edge.{Edge};
 ghost use Rattle.vme_model.specs.declared.signals.Version.{Version};
-ghost use Rattle.vme_standings.specs.Grants.{behind_release, behind_take, can_release, is_taken};
-ghost use Rattle.vme_standings.specs.InPhase.{AreAsked, CoversGrants, InPhase};
-ghost use Rattle.vme_standings.specs.Phases.{HasExactly};
+ghost use Rattle.vme_standings.specs.Grants.{behind_grant, behind_pass, behind_release, behind_rise, behind_take, can_release, is_granted, is_passed, is_taken};
+ghost use Rattle.vme_standings.specs.InPhase.{AreAsked, CoversGrants, HasProbes, HasUnseen, InPhase, IsOfGrant, grant_segment};
+ghost use Rattle.vme_standings.specs.Phases.{HasExactly, has_phase};
 ghost use Rattle.vme_standings.specs.Requests.{IsBy};
+ghost use Rattle.vme_standings.specs.Unseen.{has_row_for};
+ghost use Rattle.vme_standings.specs.declared.phases.GrantPhase.{GrantPhase as PhaseValue};
 ghost use Rattle.vme_standings.specs.declared.phases.GrantPhase.TheVariants.{Idle};
 ghost use Rattle.vme_standings.specs.declared.phases.GrantPhases.{GrantPhases};
 
@@ -57,4 +61,83 @@ pub fn bus_is_released()
         → v.signal ≡ signal.Line line.Bbsy → v.fall ≡ false → AreAsked p h requests
         → CoversGrants p h old → HasExactly new (behind_release p requests old)
         → CoversGrants p (e ∷ h) new }
+{}
+
+/// A fall of the controller's segment of a grant chain is by the controller, which may grant that
+/// level. Behind it the bus is covered: a grant of that level stands at the first board.
+pub fn grant_begins()
+    ensures by { (version : Version) (p : Plan) (pins : List Pin) (h : List Edge) (e : Edge)
+        (v : Change) (q : Pin) (c : ℕ) →
+        IsAccepted p → IsLegal version p (e ∷ h) → seen p pins h e ≡ Some v
+        → v.signal ≡ signal.Pin q → c < 4 → wire_of p q ≡ grant_segment c 0
+        → v.fall ≡ true → IsOfGrant e c 0 }
+    ensures able { (version : Version) (p : Plan) (pins : List Pin) (h : List Edge) (e : Edge)
+        (v : Change) (q : Pin) (c : ℕ) (requests : BusLevels) (old : GrantPhases) →
+        IsAccepted p → IsLegal version p (e ∷ h) → seen p pins h e ≡ Some v
+        → v.signal ≡ signal.Pin q → c < 4 → wire_of p q ≡ grant_segment c 0
+        → v.fall ≡ true → AreAsked p h requests → CoversGrants p h old
+        → is_granted p requests c old ≡ true }
+    ensures covered { (version : Version) (p : Plan) (pins : List Pin) (h : List Edge) (e : Edge)
+        (v : Change) (q : Pin) (c : ℕ) (requests : BusLevels) (old new : GrantPhases) →
+        IsAccepted p → IsLegal version p (e ∷ h) → seen p pins h e ≡ Some v
+        → v.signal ≡ signal.Pin q → c < 4 → wire_of p q ≡ grant_segment c 0
+        → v.fall ≡ true → AreAsked p h requests → CoversGrants p h old
+        → HasExactly new (behind_grant p requests c old) → CoversGrants p (e ∷ h) new }
+{}
+
+/// A fall of a board's segment of a grant chain is by that board, which may pass a grant on. Behind
+/// it the bus is covered: the board has passed the grant on.
+pub fn grant_is_passed()
+    ensures by { (version : Version) (p : Plan) (pins : List Pin) (h : List Edge) (e : Edge)
+        (v : Change) (q : Pin) (c s : ℕ) →
+        IsAccepted p → IsLegal version p (e ∷ h) → seen p pins h e ≡ Some v
+        → v.signal ≡ signal.Pin q → c < 4 → 0 < s → wire_of p q ≡ grant_segment c s
+        → v.fall ≡ true → IsOfGrant e c s }
+    ensures able { (version : Version) (p : Plan) (pins : List Pin) (h : List Edge) (e : Edge)
+        (v : Change) (q : Pin) (c s : ℕ) (old : GrantPhases) →
+        IsAccepted p → IsLegal version p (e ∷ h) → seen p pins h e ≡ Some v
+        → v.signal ≡ signal.Pin q → c < 4 → 0 < s → wire_of p q ≡ grant_segment c s
+        → v.fall ≡ true → CoversGrants p h old → is_passed p version c s old ≡ true }
+    ensures covered { (version : Version) (p : Plan) (pins : List Pin) (h : List Edge) (e : Edge)
+        (v : Change) (q : Pin) (c s : ℕ) (old new : GrantPhases) →
+        IsAccepted p → IsLegal version p (e ∷ h) → seen p pins h e ≡ Some v
+        → v.signal ≡ signal.Pin q → c < 4 → 0 < s → wire_of p q ≡ grant_segment c s
+        → v.fall ≡ true → CoversGrants p h old
+        → HasExactly new (behind_pass p version c s old) → CoversGrants p (e ∷ h) new }
+{}
+
+/// A rise of a segment of a grant chain is by who drives it. Behind it the bus is covered: the next
+/// segment is the first low one, or there is none.
+pub fn grant_segment_rises()
+    ensures by { (version : Version) (p : Plan) (pins : List Pin) (h : List Edge) (e : Edge)
+        (v : Change) (q : Pin) (c s : ℕ) →
+        IsAccepted p → IsLegal version p (e ∷ h) → seen p pins h e ≡ Some v
+        → v.signal ≡ signal.Pin q → c < 4 → wire_of p q ≡ grant_segment c s
+        → v.fall ≡ false → IsOfGrant e c s }
+    ensures covered { (version : Version) (p : Plan) (pins : List Pin) (h : List Edge) (e : Edge)
+        (v : Change) (q : Pin) (c s : ℕ) (old new : GrantPhases) →
+        IsAccepted p → IsLegal version p (e ∷ h) → seen p pins h e ≡ Some v
+        → v.signal ≡ signal.Pin q → c < 4 → wire_of p q ≡ grant_segment c s
+        → v.fall ≡ false → CoversGrants p h old
+        → HasExactly new (behind_rise p version c s old) → CoversGrants p (e ∷ h) new }
+{}
+
+/// The hidden moves keep the bus covered.
+pub fn hidden_moves_keep_grants_covered()
+    ensures { (version : Version) (p : Plan) (h : List Edge) (old new : GrantPhases) →
+        IsAccepted p → IsLegal version p h
+        → ((q : PhaseValue) → has_row_for q ≡ true → has_phase old q ≡ true
+        → has_phase new q ≡ true)
+        → CoversGrants p h old → CoversGrants p h new }
+{}
+
+/// An edge that no probe sees leaves the bus covered, if the set has the phases to which such edges
+/// lead.
+pub fn unseen_edge_keeps_grants_covered()
+    ensures { (version : Version) (p : Plan) (pins : List Pin) (h : List Edge) (e : Edge)
+        (requests : BusLevels) (probed : List SlotSet) (old : GrantPhases) →
+        IsAccepted p → IsLegal version p (e ∷ h) → seen p pins h e ≡ None
+        → AreAsked p h requests → HasProbes p pins probed
+        → HasUnseen version p requests probed old
+        → CoversGrants p h old → CoversGrants p (e ∷ h) old }
 {}
