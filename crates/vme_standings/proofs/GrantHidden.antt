@@ -46,21 +46,22 @@ use Rattle.vme_standings.proofs.PhaseSteps.{Moves, board_moves, equal, few_some,
 use Rattle.vme_standings.proofs.GrantEdges.{give_level, give_to, is_few, take_from, take_level}
 use Rattle.vme_standings.proofs.GrantTurns.{AllRun, GoneBack, KeptBy, RunOn, Turns, back_few, back_turns, free_high, grant_few, grant_from, grant_picked, grant_to, pass_before_end, pass_from, pass_level, pass_to, rise_level, rise_turns}
 
-near_row : (a : ℕ) → a < 22 → nat_lt a 22 ≡ true
+pub near_row : (a : ℕ) → a < 22 → nat_lt a 22 ≡ true
 near_row a l = grind (arith, nat_tests)
+
+-- a holder is in a slot of a backplane
+pub holder_near : (p : Plan) → IsAccepted p → (h : List Edge) (k first : ℕ) → last_level p (Held k first) ≡ Some (last_granted h) → k < 22
+holder_near p ok h k first e = by_board (board p k) refl e
+  where
+    by_board : (o : Option Row) → board p k ≡ o → option_map (λ (q : RequesterRow). q.level) (option_and_then (λ (r : Row). r.requester) o) ≡ Some (last_granted h) → k < 22
+    by_board None at x = absurd (cc)
+    by_board (Some r) at x = (stands p k r ok at).near
 
 -- a set has a row for the phase in which a bus is
 row_of : (version : Version) (p : Plan) → IsAccepted p → (h : List Edge) → IsLegal version p h → (q : GrantPhase) → InPhase p h q → has_row_for q ≡ true
 row_of version p ok h legal (Idle c) i = is_few c (few_some c (last_granted h) i.granted (last_few version p h legal))
 row_of version p ok h legal (Granting c last) i = is_few c (few_some c (last_granted h) i.granted (last_few version p h legal))
-row_of version p ok h legal (Held k first) i = near_row k (holder_near p ok k first i.granted)
-  where
-    holder_near : (p : Plan) → IsAccepted p → (k first : ℕ) → last_level p (Held k first) ≡ Some (last_granted h) → k < 22
-    holder_near p ok k first e = by_board (board p k) refl e
-      where
-        by_board : (o : Option Row) → board p k ≡ o → option_map (λ (q : RequesterRow). q.level) (option_and_then (λ (r : Row). r.requester) o) ≡ Some (last_granted h) → k < 22
-        by_board None at x = absurd (cc)
-        by_board (Some r) at x = (stands p k r ok at).near
+row_of version p ok h legal (Held k first) i = near_row k (holder_near p ok h k first i.granted)
 row_of version p ok h legal (Expired c first) i = is_few c (few_some c (last_granted h) i.granted (last_few version p h legal))
 
 pub moves_cover : (version : Version) (p : Plan) → IsAccepted p → (h : List Edge) → IsLegal version p h → (old new : GrantPhases)

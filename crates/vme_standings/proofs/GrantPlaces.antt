@@ -67,6 +67,9 @@ module _ (p : Plan) (ok : IsAccepted p) where
   pub near : (c s : ℕ) → is_of_level p c s ≡ true → s < 22
   near c s on = let w = within p range c s on in let to = w.1 in let most = range.most in omega arith
 
+  pub segment_near : (c s : ℕ) → is_segment p c s ≡ true → s < 22
+  segment_near c s seg = ⊎_elim (λ (e : s ≡ 0). omega (arith, e)) (λ (on : is_of_level p c s ≡ true). near c s on) (segment_is p c s seg)
+
   -- a board is of one level
   pub one_level : (m n s t : ℕ) → is_of_level p m s ≡ true → is_segment p n t ≡ true → t ≡ s → m ≡ n
   one_level m n s t on seg same =

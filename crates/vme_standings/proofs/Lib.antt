@@ -54,3 +54,5 @@ pub mod GrantSegments
 pub mod GrantRows
 -- the law of the grants and BBSY* behind an edge that no probe sees
 pub mod GrantHidden
+-- the laws of the grants and BBSY* behind a change of a BR line, of AS* or of BCLR*
+pub mod GrantOthers

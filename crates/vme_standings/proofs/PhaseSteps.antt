@@ -48,7 +48,7 @@ begins_idle p = record {
     low c (suc s) false = refl
 
 -- tests of numbers
-upto : (a b : ℕ) → nat_le a b ≡ true → a ≤ b
+pub upto : (a b : ℕ) → nat_le a b ≡ true → a ≤ b
 upto a b e = grind (arith, nat_tests)
 
 pub is_upto : (a b : ℕ) → a ≤ b → nat_le a b ≡ true

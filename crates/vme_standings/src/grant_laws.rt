@@ -3,7 +3,8 @@
 //!
 //! These functions do nothing. Each is a theorem, which its contract states. `old` is what is known
 //! before an edge, and `new` what is known behind it.
-ghost use Rattle.std.specs.Prelude.{◌≡◌, ◌∷◌, ◌<◌, ℕ, true, false, Some, None, List, []};
+ghost use Rattle.std.specs.Prelude.{◌≡◌, ◌≢◌, ◌∷◌, ◌&&◌, ◌||◌, ◌<◌, ℕ, true, false, Some, None, List, []};
+ghost use Rattle.vme_bus.specs.Sets.{has};
 ghost use Rattle.vme_bus.specs.declared.sets.SlotSet.{SlotSet};
 ghost use Rattle.vme_captures.specs.Changes.{seen};
 ghost use Rattle.vme_captures.specs.Wires.{wire_of};
@@ -13,17 +14,22 @@ ghost use Rattle.vme_captures.specs.declared.signals.Pin.{Pin};
 ghost use Rattle.vme_captures.specs.declared.signals.Signal.TheVariants as signal;
 ghost use Rattle.vme_model.specs.Accepted.{IsAccepted};
 ghost use Rattle.vme_model.specs.Plan.{Plan};
+ghost use Rattle.vme_model.specs.Signals.{is_two};
 ghost use Rattle.vme_model.specs.Verdict.{IsLegal};
 ghost use Rattle.vme_model.specs.declared.sets.BusLevels.{BusLevels};
+ghost use Rattle.vme_model.specs.declared.signals.Driver.TheVariants.{Controller, Slot};
 ghost use Rattle.vme_model.specs.declared.signals.Edge.{Edge};
 ghost use Rattle.vme_model.specs.declared.signals.Version.{Version};
-ghost use Rattle.vme_standings.specs.Grants.{behind_grant, behind_pass, behind_release, behind_rise, behind_take, can_release, is_granted, is_passed, is_taken};
+ghost use Rattle.vme_model.specs.declared.signals.Wire.TheVariants.{Bbsy, Bg, BgOut};
+ghost use Rattle.vme_standings.specs.Driving.{AreAskers, AreWithdrawers};
+ghost use Rattle.vme_standings.specs.GrantChains.{is_of_level};
+ghost use Rattle.vme_standings.specs.Grants.{IsBehindRequest, are_alike, behind_grant, behind_pass, behind_release, behind_rise, behind_take, can_release, is_clear_due, is_granted, is_passed, is_taken};
 ghost use Rattle.vme_standings.specs.InPhase.{AreAsked, CoversGrants, HasProbes, HasUnseen, InPhase, IsOfGrant, grant_segment};
-ghost use Rattle.vme_standings.specs.Phases.{HasExactly, has_phase};
+ghost use Rattle.vme_standings.specs.Phases.{HasExactly, has_phase, is_held_by};
 ghost use Rattle.vme_standings.specs.Requests.{IsBy};
 ghost use Rattle.vme_standings.specs.Unseen.{has_row_for};
 ghost use Rattle.vme_standings.specs.declared.phases.GrantPhase.{GrantPhase as PhaseValue};
-ghost use Rattle.vme_standings.specs.declared.phases.GrantPhase.TheVariants.{Idle};
+ghost use Rattle.vme_standings.specs.declared.phases.GrantPhase.TheVariants.{Held, Idle};
 ghost use Rattle.vme_standings.specs.declared.phases.GrantPhases.{GrantPhases};
 
 /// At power-up nobody holds the bus and no grant is low, and the level last granted is 0.
@@ -139,5 +145,78 @@ pub fn unseen_edge_keeps_grants_covered()
         IsAccepted p → IsLegal version p (e ∷ h) → seen p pins h e ≡ None
         → AreAsked p h requests → HasProbes p pins probed
         → HasUnseen version p requests probed old
+        → CoversGrants p h old → CoversGrants p (e ∷ h) old }
+{}
+
+/// A fall of a BR line is by a board of its level that does not hold the bus, which is among those
+/// that may have asked. Behind it the bus is covered: it stays in its phase.
+pub fn request_line_falls()
+    ensures by { (version : Version) (p : Plan) (pins : List Pin) (h : List Edge) (e : Edge)
+        (v : Change) (n : ℕ) (boards : SlotSet) (old : GrantPhases) →
+        IsAccepted p → IsLegal version p (e ∷ h) → seen p pins h e ≡ Some v
+        → v.signal ≡ signal.Line (line.Br n) → v.fall ≡ true → AreAskers p n old boards
+        → CoversGrants p h old → IsBy e (λ s. has boards s ≡ true) }
+    ensures covered { (version : Version) (p : Plan) (pins : List Pin) (h : List Edge) (e : Edge)
+        (v : Change) (n : ℕ) (boards : SlotSet) (old new : GrantPhases) →
+        IsAccepted p → IsLegal version p (e ∷ h) → seen p pins h e ≡ Some v
+        → v.signal ≡ signal.Line (line.Br n) → v.fall ≡ true → AreAskers p n old boards
+        → CoversGrants p h old → IsBehindRequest boards old new → CoversGrants p (e ∷ h) new }
+{}
+
+/// A rise of a BR line is by a board of its level; in the first version it holds the bus. Behind it
+/// the bus is covered.
+pub fn request_line_rises()
+    ensures by { (version : Version) (p : Plan) (pins : List Pin) (h : List Edge) (e : Edge)
+        (v : Change) (n : ℕ) (boards : SlotSet) (old : GrantPhases) →
+        IsAccepted p → IsLegal version p (e ∷ h) → seen p pins h e ≡ Some v
+        → v.signal ≡ signal.Line (line.Br n) → v.fall ≡ false
+        → AreWithdrawers p version n old boards
+        → CoversGrants p h old → IsBy e (λ s. has boards s ≡ true) }
+    ensures covered { (version : Version) (p : Plan) (pins : List Pin) (h : List Edge) (e : Edge)
+        (v : Change) (n : ℕ) (old new : GrantPhases) →
+        IsAccepted p → IsLegal version p (e ∷ h) → seen p pins h e ≡ Some v
+        → v.signal ≡ signal.Line (line.Br n) → v.fall ≡ false → CoversGrants p h old
+        → HasExactly new (λ q.
+            (is_two version || is_held_by (is_of_level p n) q) && has_phase old q)
+        → CoversGrants p (e ∷ h) new }
+{}
+
+/// A fall of AS* is by a board that holds the bus in some phase. Behind it the bus is covered by
+/// the phases in which that board holds it.
+pub fn address_strobe_falls()
+    ensures by { (version : Version) (p : Plan) (pins : List Pin) (h : List Edge) (e : Edge)
+        (v : Change) (old : GrantPhases) →
+        IsAccepted p → IsLegal version p (e ∷ h) → seen p pins h e ≡ Some v
+        → v.signal ≡ signal.Line line.AddressStrobe → v.fall ≡ true → CoversGrants p h old
+        → IsBy e (λ s. (first : ℕ) × (has_phase old (Held s first) ≡ true)) }
+    ensures covered { (version : Version) (p : Plan) (pins : List Pin) (h : List Edge) (e : Edge)
+        (v : Change) (boards : SlotSet) (old new : GrantPhases) →
+        IsAccepted p → IsLegal version p (e ∷ h) → seen p pins h e ≡ Some v
+        → v.signal ≡ signal.Line line.AddressStrobe → v.fall ≡ true → CoversGrants p h old
+        → ((s : ℕ) → e.driver ≡ Slot s → has boards s ≡ true)
+        → HasExactly new (λ q. is_held_by (has boards) q && has_phase old q)
+        → CoversGrants p (e ∷ h) new }
+{}
+
+/// A change of BCLR* is by the controller. Behind it the bus is covered by the phases in which bus
+/// clear is due if it fell, and by those in which it is not if it rose.
+pub fn bus_clear_falls_and_rises()
+    ensures by { (version : Version) (p : Plan) (pins : List Pin) (h : List Edge) (e : Edge)
+        (v : Change) (old : GrantPhases) →
+        IsAccepted p → IsLegal version p (e ∷ h) → seen p pins h e ≡ Some v
+        → v.signal ≡ signal.Line line.Bclr → CoversGrants p h old → e.driver ≡ Controller }
+    ensures covered { (version : Version) (p : Plan) (pins : List Pin) (h : List Edge) (e : Edge)
+        (v : Change) (requests : BusLevels) (old new : GrantPhases) →
+        IsAccepted p → IsLegal version p (e ∷ h) → seen p pins h e ≡ Some v
+        → v.signal ≡ signal.Line line.Bclr → AreAsked p h requests → CoversGrants p h old
+        → HasExactly new (λ q.
+            has_phase old q && are_alike (is_clear_due p requests q) v.fall)
+        → CoversGrants p (e ∷ h) new }
+{}
+
+/// An edge that is neither of a grant chain nor of BBSY* leaves the bus covered.
+pub fn other_edges_keep_grants_covered()
+    ensures { (p : Plan) (h : List Edge) (e : Edge) (old : GrantPhases) →
+        ((n : ℕ) → e.wire ≢ Bg n) → e.wire ≢ BgOut → e.wire ≢ Bbsy
         → CoversGrants p h old → CoversGrants p (e ∷ h) old }
 {}

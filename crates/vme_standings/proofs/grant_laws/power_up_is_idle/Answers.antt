@@ -1,5 +1,3 @@
-use Rattle.vme_standings.proofs.GrantSegments.{of_grant}
-use Rattle.vme_standings.proofs.GrantTurns.{back_turns}
 use Rattle.vme_standings.proofs.PhaseSteps.{begins_idle}
 use Rattle.vme_standings.proofs.grant_laws.power_up_is_idle.Goals as goal
 
