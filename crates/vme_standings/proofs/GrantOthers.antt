@@ -41,6 +41,7 @@ use Rattle.vme_standings.specs.Cuts.{last_level}
 use Rattle.vme_standings.specs.Driving.{AreAskers, AreWithdrawers}
 use Rattle.vme_standings.specs.GrantChains.{is_of_level, requester_at}
 use Rattle.vme_standings.specs.Grants.{IsBehindRequest, are_alike, is_asked_above, is_clear_due, is_outranked}
+use Rattle.vme_standings.specs.LowSegments.{is_segment}
 use Rattle.vme_standings.specs.Phases.{HasExactly, has_phase, is_held_by, is_in_table}
 use Rattle.vme_standings.specs.Requests.{IsBy}
 use Rattle.vme_standings.specs.InPhase.{AreAsked, CoversGrants, InPhase, is_place_low}
@@ -63,7 +64,7 @@ in_table version p ok h legal (Granting c last) i =
     both (nat_lt c 4) (nat_lt last 22) (is_few c (few_some c (last_granted h) i.granted (last_few version p h legal))) (near_row last (segment_near p ok c last i.named))
 in_table version p ok h legal (Held k first) i =
     let l = holder_near p ok h k first i.granted in
-    let to = upto first k (and_right _ _ i.named) in
+    let to : first ≤ k = upto first k (and_right (option_map_or (λ q. is_segment p q.level first) (requester_at p k) false) (nat_le first k) i.named) in
     both (nat_lt k 22) (nat_lt first 22) (near_row k l) (near_row first (omega (arith, l, to)))
 in_table version p ok h legal (Expired c first) i =
     both (nat_lt c 4) (nat_lt first 22) (is_few c (few_some c (last_granted h) i.granted (last_few version p h legal))) (near_row first (near p ok c first i.named))
@@ -160,6 +161,11 @@ holder_level p k first n e = by_board (board p k) refl e
     by_board : (o : Option Row) → board p k ≡ o → option_map (λ (q : RequesterRow). q.level) (option_and_then (λ (r : Row). r.requester) o) ≡ Some n → option_map_or (requests_on n) o false ≡ true
     by_board None at x = absurd (cc)
     by_board (Some r) at x = by_requester r.requester x
+
+pub cleared_by : (version : Version) (p : Plan) → IsAccepted p → (pins : List Pin) (h : List Edge) (e : Edge) (v : Change) → IsLegal version p (e ∷ h) → seen p pins h e ≡ Some v
+    → v.signal ≡ signal.Line on_line.Bclr → e.driver ≡ Controller
+cleared_by version p ok pins h e v legal s is =
+    (bclr_is e.driver e.wire (board_of p e.driver) (all_passed version p h e.driver e.wire e.fall e.value legal.0).wire (line_is p pins h e v s on_line.Bclr is)).0
 
 module _ (version : Version) (p : Plan) (ok : IsAccepted p) (pins : List Pin) (h : List Edge) (e : Edge) (v : Change) (legal : IsLegal version p (e ∷ h)) (s : seen p pins h e ≡ Some v) (old : GrantPhases) (covers : CoversGrants p h old) where
   legal_as : (x : Edge) → e ≡ x → IsLegal version p (x ∷ h)
@@ -273,9 +279,6 @@ module _ (version : Version) (p : Plan) (ok : IsAccepted p) (pins : List Pin) (h
   module _ (is : v.signal ≡ signal.Line on_line.Bclr) where
     abbrev clear_is : (e.driver ≡ Controller) × (e.wire ≡ wire.Bclr)
     clear_is = bclr_is e.driver e.wire (board_of p e.driver) (all_passed version p h e.driver e.wire e.fall e.value legal.0).wire (line_is p pins h e v s on_line.Bclr is)
-
-    pub cleared_by : e.driver ≡ Controller
-    cleared_by = clear_is.0
 
     module _ (requests : BusLevels) (asked : AreAsked p h requests) where
       abbrev higher : Bool

@@ -32,36 +32,49 @@ ghost use Rattle.vme_standings.specs.declared.phases.GrantPhase.{GrantPhase as P
 ghost use Rattle.vme_standings.specs.declared.phases.GrantPhase.TheVariants.{Held, Idle};
 ghost use Rattle.vme_standings.specs.declared.phases.GrantPhases.{GrantPhases};
 
-/// At power-up nobody holds the bus and no grant is low, and the level last granted is 0.
-pub fn power_up_is_idle()
-    ensures { (p : Plan) → InPhase p [] (Idle 0) }
+/// What is known stays true. At power-up nobody holds the bus, no grant is low, and the level last
+/// granted is 0. The hidden moves keep the bus covered. So does an edge that no probe sees, if the
+/// set has the phases to which such edges lead, and so does any edge that is neither of a grant
+/// chain nor of BBSY*.
+pub fn unseen_edge_keeps_grants_covered()
+    ensures power_up { (p : Plan) → InPhase p [] (Idle 0) }
+    ensures moves { (version : Version) (p : Plan) (h : List Edge) (old new : GrantPhases) →
+        IsAccepted p → IsLegal version p h
+        → ((q : PhaseValue) → has_row_for q ≡ true → has_phase old q ≡ true
+        → has_phase new q ≡ true)
+        → CoversGrants p h old → CoversGrants p h new }
+    ensures unseen { (version : Version) (p : Plan) (pins : List Pin) (h : List Edge) (e : Edge)
+        (requests : BusLevels) (probed : List SlotSet) (old : GrantPhases) →
+        IsAccepted p → IsLegal version p (e ∷ h) → seen p pins h e ≡ None
+        → AreAsked p h requests → HasProbes p pins probed
+        → HasUnseen version p requests probed old
+        → CoversGrants p h old → CoversGrants p (e ∷ h) old }
+    ensures other { (p : Plan) (h : List Edge) (e : Edge) (old : GrantPhases) →
+        ((n : ℕ) → e.wire ≢ Bg n) → e.wire ≢ BgOut → e.wire ≢ Bbsy
+        → CoversGrants p h old → CoversGrants p (e ∷ h) old }
 {}
 
 /// A fall of BBSY* is by a board at which a grant of its level may stand, and behind it the bus is
-/// covered: that board holds it.
-pub fn bus_is_taken()
-    ensures by { (version : Version) (p : Plan) (pins : List Pin) (h : List Edge) (e : Edge)
+/// covered: that board holds it. A rise is by a board that may give the bus up, and behind it the
+/// bus is covered: it is idle.
+pub fn bus_is_taken_and_released()
+    ensures taken_by { (version : Version) (p : Plan) (pins : List Pin) (h : List Edge) (e : Edge)
         (v : Change) (requests : BusLevels) (old : GrantPhases) →
         IsAccepted p → IsLegal version p (e ∷ h) → seen p pins h e ≡ Some v
         → v.signal ≡ signal.Line line.Bbsy → v.fall ≡ true → AreAsked p h requests
         → CoversGrants p h old → IsBy e (λ s. is_taken p requests old s ≡ true) }
-    ensures covered { (version : Version) (p : Plan) (pins : List Pin) (h : List Edge) (e : Edge)
+    ensures taken { (version : Version) (p : Plan) (pins : List Pin) (h : List Edge) (e : Edge)
         (v : Change) (requests : BusLevels) (old new : GrantPhases) →
         IsAccepted p → IsLegal version p (e ∷ h) → seen p pins h e ≡ Some v
         → v.signal ≡ signal.Line line.Bbsy → v.fall ≡ true → AreAsked p h requests
         → CoversGrants p h old → HasExactly new (behind_take p requests old)
         → CoversGrants p (e ∷ h) new }
-{}
-
-/// A rise of BBSY* is by a board that may give the bus up, and behind it the bus is covered: it is
-/// idle.
-pub fn bus_is_released()
-    ensures by { (version : Version) (p : Plan) (pins : List Pin) (h : List Edge) (e : Edge)
-        (v : Change) (requests : BusLevels) (old : GrantPhases) →
+    ensures released_by { (version : Version) (p : Plan) (pins : List Pin) (h : List Edge)
+        (e : Edge) (v : Change) (requests : BusLevels) (old : GrantPhases) →
         IsAccepted p → IsLegal version p (e ∷ h) → seen p pins h e ≡ Some v
         → v.signal ≡ signal.Line line.Bbsy → v.fall ≡ false → AreAsked p h requests
         → CoversGrants p h old → IsBy e (λ s. can_release p requests old s ≡ true) }
-    ensures covered { (version : Version) (p : Plan) (pins : List Pin) (h : List Edge) (e : Edge)
+    ensures released { (version : Version) (p : Plan) (pins : List Pin) (h : List Edge) (e : Edge)
         (v : Change) (requests : BusLevels) (old new : GrantPhases) →
         IsAccepted p → IsLegal version p (e ∷ h) → seen p pins h e ≡ Some v
         → v.signal ≡ signal.Line line.Bbsy → v.fall ≡ false → AreAsked p h requests
@@ -69,58 +82,38 @@ pub fn bus_is_released()
         → CoversGrants p (e ∷ h) new }
 {}
 
-/// A fall of the controller's segment of a grant chain is by the controller, which may grant that
-/// level. Behind it the bus is covered: a grant of that level stands at the first board.
-pub fn grant_begins()
+/// A change of a segment of a grant chain is by who drives it. If the controller's falls, its level
+/// may be granted, and if that of a board falls, the board may pass a grant on. Behind a fall or a
+/// rise the bus is covered.
+pub fn grant_segment_falls_and_rises()
     ensures by { (version : Version) (p : Plan) (pins : List Pin) (h : List Edge) (e : Edge)
-        (v : Change) (q : Pin) (c : ℕ) →
+        (v : Change) (q : Pin) (c s : ℕ) →
         IsAccepted p → IsLegal version p (e ∷ h) → seen p pins h e ≡ Some v
-        → v.signal ≡ signal.Pin q → c < 4 → wire_of p q ≡ grant_segment c 0
-        → v.fall ≡ true → IsOfGrant e c 0 }
-    ensures able { (version : Version) (p : Plan) (pins : List Pin) (h : List Edge) (e : Edge)
+        → v.signal ≡ signal.Pin q → c < 4 → wire_of p q ≡ grant_segment c s → IsOfGrant e c s }
+    ensures granted { (version : Version) (p : Plan) (pins : List Pin) (h : List Edge) (e : Edge)
         (v : Change) (q : Pin) (c : ℕ) (requests : BusLevels) (old : GrantPhases) →
         IsAccepted p → IsLegal version p (e ∷ h) → seen p pins h e ≡ Some v
         → v.signal ≡ signal.Pin q → c < 4 → wire_of p q ≡ grant_segment c 0
         → v.fall ≡ true → AreAsked p h requests → CoversGrants p h old
         → is_granted p requests c old ≡ true }
-    ensures covered { (version : Version) (p : Plan) (pins : List Pin) (h : List Edge) (e : Edge)
+    ensures begins { (version : Version) (p : Plan) (pins : List Pin) (h : List Edge) (e : Edge)
         (v : Change) (q : Pin) (c : ℕ) (requests : BusLevels) (old new : GrantPhases) →
         IsAccepted p → IsLegal version p (e ∷ h) → seen p pins h e ≡ Some v
         → v.signal ≡ signal.Pin q → c < 4 → wire_of p q ≡ grant_segment c 0
         → v.fall ≡ true → AreAsked p h requests → CoversGrants p h old
         → HasExactly new (behind_grant p requests c old) → CoversGrants p (e ∷ h) new }
-{}
-
-/// A fall of a board's segment of a grant chain is by that board, which may pass a grant on. Behind
-/// it the bus is covered: the board has passed the grant on.
-pub fn grant_is_passed()
-    ensures by { (version : Version) (p : Plan) (pins : List Pin) (h : List Edge) (e : Edge)
-        (v : Change) (q : Pin) (c s : ℕ) →
-        IsAccepted p → IsLegal version p (e ∷ h) → seen p pins h e ≡ Some v
-        → v.signal ≡ signal.Pin q → c < 4 → 0 < s → wire_of p q ≡ grant_segment c s
-        → v.fall ≡ true → IsOfGrant e c s }
-    ensures able { (version : Version) (p : Plan) (pins : List Pin) (h : List Edge) (e : Edge)
+    ensures passed { (version : Version) (p : Plan) (pins : List Pin) (h : List Edge) (e : Edge)
         (v : Change) (q : Pin) (c s : ℕ) (old : GrantPhases) →
         IsAccepted p → IsLegal version p (e ∷ h) → seen p pins h e ≡ Some v
         → v.signal ≡ signal.Pin q → c < 4 → 0 < s → wire_of p q ≡ grant_segment c s
         → v.fall ≡ true → CoversGrants p h old → is_passed p version c s old ≡ true }
-    ensures covered { (version : Version) (p : Plan) (pins : List Pin) (h : List Edge) (e : Edge)
+    ensures passes { (version : Version) (p : Plan) (pins : List Pin) (h : List Edge) (e : Edge)
         (v : Change) (q : Pin) (c s : ℕ) (old new : GrantPhases) →
         IsAccepted p → IsLegal version p (e ∷ h) → seen p pins h e ≡ Some v
         → v.signal ≡ signal.Pin q → c < 4 → 0 < s → wire_of p q ≡ grant_segment c s
         → v.fall ≡ true → CoversGrants p h old
         → HasExactly new (behind_pass p version c s old) → CoversGrants p (e ∷ h) new }
-{}
-
-/// A rise of a segment of a grant chain is by who drives it. Behind it the bus is covered: the next
-/// segment is the first low one, or there is none.
-pub fn grant_segment_rises()
-    ensures by { (version : Version) (p : Plan) (pins : List Pin) (h : List Edge) (e : Edge)
-        (v : Change) (q : Pin) (c s : ℕ) →
-        IsAccepted p → IsLegal version p (e ∷ h) → seen p pins h e ≡ Some v
-        → v.signal ≡ signal.Pin q → c < 4 → wire_of p q ≡ grant_segment c s
-        → v.fall ≡ false → IsOfGrant e c s }
-    ensures covered { (version : Version) (p : Plan) (pins : List Pin) (h : List Edge) (e : Edge)
+    ensures rises { (version : Version) (p : Plan) (pins : List Pin) (h : List Edge) (e : Edge)
         (v : Change) (q : Pin) (c s : ℕ) (old new : GrantPhases) →
         IsAccepted p → IsLegal version p (e ∷ h) → seen p pins h e ≡ Some v
         → v.signal ≡ signal.Pin q → c < 4 → wire_of p q ≡ grant_segment c s
@@ -128,95 +121,55 @@ pub fn grant_segment_rises()
         → HasExactly new (behind_rise p version c s old) → CoversGrants p (e ∷ h) new }
 {}
 
-/// The hidden moves keep the bus covered.
-pub fn hidden_moves_keep_grants_covered()
-    ensures { (version : Version) (p : Plan) (h : List Edge) (old new : GrantPhases) →
-        IsAccepted p → IsLegal version p h
-        → ((q : PhaseValue) → has_row_for q ≡ true → has_phase old q ≡ true
-        → has_phase new q ≡ true)
-        → CoversGrants p h old → CoversGrants p h new }
-{}
-
-/// An edge that no probe sees leaves the bus covered, if the set has the phases to which such edges
-/// lead.
-pub fn unseen_edge_keeps_grants_covered()
-    ensures { (version : Version) (p : Plan) (pins : List Pin) (h : List Edge) (e : Edge)
-        (requests : BusLevels) (probed : List SlotSet) (old : GrantPhases) →
-        IsAccepted p → IsLegal version p (e ∷ h) → seen p pins h e ≡ None
-        → AreAsked p h requests → HasProbes p pins probed
-        → HasUnseen version p requests probed old
-        → CoversGrants p h old → CoversGrants p (e ∷ h) old }
-{}
-
-/// A fall of a BR line is by a board of its level that does not hold the bus, which is among those
-/// that may have asked. Behind it the bus is covered: it stays in its phase.
-pub fn request_line_falls()
-    ensures by { (version : Version) (p : Plan) (pins : List Pin) (h : List Edge) (e : Edge)
+/// A fall of a BR line is by a board of its level that may have asked, since it does not hold the
+/// bus. A rise is by one that may have withdrawn; in the first version it holds the bus. A fall of
+/// AS* is by a board that holds the bus in some phase, and a change of BCLR* is by the controller.
+/// Behind each the bus is covered.
+pub fn lines_tell_of_the_phase()
+    ensures asked_by { (version : Version) (p : Plan) (pins : List Pin) (h : List Edge) (e : Edge)
         (v : Change) (n : ℕ) (boards : SlotSet) (old : GrantPhases) →
         IsAccepted p → IsLegal version p (e ∷ h) → seen p pins h e ≡ Some v
         → v.signal ≡ signal.Line (line.Br n) → v.fall ≡ true → AreAskers p n old boards
         → CoversGrants p h old → IsBy e (λ s. has boards s ≡ true) }
-    ensures covered { (version : Version) (p : Plan) (pins : List Pin) (h : List Edge) (e : Edge)
+    ensures asked { (version : Version) (p : Plan) (pins : List Pin) (h : List Edge) (e : Edge)
         (v : Change) (n : ℕ) (boards : SlotSet) (old new : GrantPhases) →
         IsAccepted p → IsLegal version p (e ∷ h) → seen p pins h e ≡ Some v
         → v.signal ≡ signal.Line (line.Br n) → v.fall ≡ true → AreAskers p n old boards
         → CoversGrants p h old → IsBehindRequest boards old new → CoversGrants p (e ∷ h) new }
-{}
-
-/// A rise of a BR line is by a board of its level; in the first version it holds the bus. Behind it
-/// the bus is covered.
-pub fn request_line_rises()
-    ensures by { (version : Version) (p : Plan) (pins : List Pin) (h : List Edge) (e : Edge)
-        (v : Change) (n : ℕ) (boards : SlotSet) (old : GrantPhases) →
+    ensures withdrawn_by { (version : Version) (p : Plan) (pins : List Pin) (h : List Edge)
+        (e : Edge) (v : Change) (n : ℕ) (boards : SlotSet) (old : GrantPhases) →
         IsAccepted p → IsLegal version p (e ∷ h) → seen p pins h e ≡ Some v
         → v.signal ≡ signal.Line (line.Br n) → v.fall ≡ false
         → AreWithdrawers p version n old boards
         → CoversGrants p h old → IsBy e (λ s. has boards s ≡ true) }
-    ensures covered { (version : Version) (p : Plan) (pins : List Pin) (h : List Edge) (e : Edge)
-        (v : Change) (n : ℕ) (old new : GrantPhases) →
+    ensures withdrawn { (version : Version) (p : Plan) (pins : List Pin) (h : List Edge)
+        (e : Edge) (v : Change) (n : ℕ) (old new : GrantPhases) →
         IsAccepted p → IsLegal version p (e ∷ h) → seen p pins h e ≡ Some v
         → v.signal ≡ signal.Line (line.Br n) → v.fall ≡ false → CoversGrants p h old
         → HasExactly new (λ q.
             (is_two version || is_held_by (is_of_level p n) q) && has_phase old q)
         → CoversGrants p (e ∷ h) new }
-{}
-
-/// A fall of AS* is by a board that holds the bus in some phase. Behind it the bus is covered by
-/// the phases in which that board holds it.
-pub fn address_strobe_falls()
-    ensures by { (version : Version) (p : Plan) (pins : List Pin) (h : List Edge) (e : Edge)
+    ensures shown_by { (version : Version) (p : Plan) (pins : List Pin) (h : List Edge) (e : Edge)
         (v : Change) (old : GrantPhases) →
         IsAccepted p → IsLegal version p (e ∷ h) → seen p pins h e ≡ Some v
         → v.signal ≡ signal.Line line.AddressStrobe → v.fall ≡ true → CoversGrants p h old
         → IsBy e (λ s. (first : ℕ) × (has_phase old (Held s first) ≡ true)) }
-    ensures covered { (version : Version) (p : Plan) (pins : List Pin) (h : List Edge) (e : Edge)
+    ensures shown { (version : Version) (p : Plan) (pins : List Pin) (h : List Edge) (e : Edge)
         (v : Change) (boards : SlotSet) (old new : GrantPhases) →
         IsAccepted p → IsLegal version p (e ∷ h) → seen p pins h e ≡ Some v
         → v.signal ≡ signal.Line line.AddressStrobe → v.fall ≡ true → CoversGrants p h old
         → ((s : ℕ) → e.driver ≡ Slot s → has boards s ≡ true)
         → HasExactly new (λ q. is_held_by (has boards) q && has_phase old q)
         → CoversGrants p (e ∷ h) new }
-{}
-
-/// A change of BCLR* is by the controller. Behind it the bus is covered by the phases in which bus
-/// clear is due if it fell, and by those in which it is not if it rose.
-pub fn bus_clear_falls_and_rises()
-    ensures by { (version : Version) (p : Plan) (pins : List Pin) (h : List Edge) (e : Edge)
-        (v : Change) (old : GrantPhases) →
+    ensures cleared_by { (version : Version) (p : Plan) (pins : List Pin) (h : List Edge)
+        (e : Edge) (v : Change) →
         IsAccepted p → IsLegal version p (e ∷ h) → seen p pins h e ≡ Some v
-        → v.signal ≡ signal.Line line.Bclr → CoversGrants p h old → e.driver ≡ Controller }
-    ensures covered { (version : Version) (p : Plan) (pins : List Pin) (h : List Edge) (e : Edge)
+        → v.signal ≡ signal.Line line.Bclr → e.driver ≡ Controller }
+    ensures cleared { (version : Version) (p : Plan) (pins : List Pin) (h : List Edge) (e : Edge)
         (v : Change) (requests : BusLevels) (old new : GrantPhases) →
         IsAccepted p → IsLegal version p (e ∷ h) → seen p pins h e ≡ Some v
         → v.signal ≡ signal.Line line.Bclr → AreAsked p h requests → CoversGrants p h old
         → HasExactly new (λ q.
             has_phase old q && are_alike (is_clear_due p requests q) v.fall)
         → CoversGrants p (e ∷ h) new }
-{}
-
-/// An edge that is neither of a grant chain nor of BBSY* leaves the bus covered.
-pub fn other_edges_keep_grants_covered()
-    ensures { (p : Plan) (h : List Edge) (e : Edge) (old : GrantPhases) →
-        ((n : ℕ) → e.wire ≢ Bg n) → e.wire ≢ BgOut → e.wire ≢ Bbsy
-        → CoversGrants p h old → CoversGrants p (e ∷ h) old }
 {}

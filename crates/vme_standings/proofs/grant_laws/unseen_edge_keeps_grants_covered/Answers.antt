@@ -1,5 +1,12 @@
-use Rattle.vme_standings.proofs.GrantHidden.{unseen_covers}
+use Rattle.vme_standings.proofs.PhaseSteps.{begins_idle}
+use Rattle.vme_standings.proofs.GrantHidden.{moves_cover, unseen_covers}
+use Rattle.vme_standings.proofs.GrantOthers.{keeps}
 use Rattle.vme_standings.proofs.grant_laws.unseen_edge_keeps_grants_covered.Goals as goal
 
 pub returns : goal.returns
-returns c = λ version p pins h e requests probed old ok legal none asked probes closed covers. unseen_covers version p ok pins h requests probed old asked probes closed covers e legal none
+returns c = record {
+  power_up = λ p. begins_idle p;
+  moves = λ version p h old new ok legal kept covers. moves_cover version p ok h legal old new kept covers;
+  unseen = λ version p pins h e requests probed old ok legal none asked probes closed covers. unseen_covers version p ok pins h requests probed old asked probes closed covers e legal none;
+  other = λ p h e old a b d covers. keeps p h e old a b d covers;
+}
