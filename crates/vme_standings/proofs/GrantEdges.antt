@@ -1,6 +1,6 @@
 -- What the rules say of an edge of the grants or BBSY*, by the phase before it.
-use Rattle.std.proofs.Common.{◌≡◌, ◌⊎◌, ◌∙◌, refl, sym, ap, subst, ℕ, zero, suc, Bool, true, false, List, [], ◌∷◌, ◌<◌, ◌≤◌, arith, inl, inr, ⊎_elim}
-use Rattle.std.specs.Prelude.{◌==◌, ◌&&◌, ◌||◌, if◌then◌else◌, nat_lt, not, Option, Some, None}
+use Rattle.std.proofs.Common.{◌≡◌, ◌∙◌, refl, sym, ap, subst, ℕ, zero, suc, Bool, true, false, List, [], ◌∷◌, ◌<◌, arith}
+use Rattle.std.specs.Prelude.{◌&&◌, ◌||◌, nat_lt, not, Option}
 use Rattle.std.specs.List.{list_any, All, Contains}
 use Rattle.std.specs.Option.{option_map_or}
 use Rattle.std.proofs.lemmas.Bool.Decides.{nat_tests}
@@ -11,8 +11,8 @@ use Rattle.vme_model.specs.declared.boards.RequesterRow.{RequesterRow}
 use Rattle.vme_model.specs.declared.sets.BusLevels.{BusLevels}
 use Rattle.vme_model.specs.declared.signals.Version.{Version}
 use Rattle.vme_model.specs.declared.signals.Cycle.{Cycle}
-use Rattle.vme_model.specs.declared.signals.Driver.TheVariants.{Controller, Slot}
-use Rattle.vme_model.specs.declared.signals.Wire.TheVariants.{Bg, BgOut, Bbsy, Br}
+use Rattle.vme_model.specs.declared.signals.Driver.TheVariants.{Slot}
+use Rattle.vme_model.specs.declared.signals.Wire.TheVariants.{BgOut, Bbsy, Br}
 use Rattle.vme_model.specs.declared.signals.Edge.{Edge}
 use Rattle.vme_model.specs.Sets.{has_bus_level}
 use Rattle.vme_model.specs.Plan.{Plan, active, grant_chain}
@@ -27,12 +27,12 @@ use Rattle.vme_model.proofs.AllowedEdges.{Passed, all_passed}
 use Rattle.vme_model.proofs.Ranges.{IsRowInRange, in_range}
 use Rattle.vme_model.proofs.Members.{HasLevel, found_row, has_board, is_member, level_of}
 use Rattle.vme_model.proofs.Grants.{grant_is}
-use Rattle.vme_histories.proofs.AllowedBoards.{at, at_head}
+use Rattle.vme_histories.proofs.AllowedBoards.{at}
 use Rattle.vme_standings.specs.declared.phases.GrantPhase.{GrantPhase}
-use Rattle.vme_standings.specs.declared.phases.GrantPhase.TheVariants.{Idle, Granting, Held, Expired}
+use Rattle.vme_standings.specs.declared.phases.GrantPhase.TheVariants.{Idle, Granting, Held}
 use Rattle.vme_standings.specs.declared.phases.GrantPhases.{GrantPhases}
-use Rattle.vme_standings.specs.GrantChains.{end_place, is_follower, is_of_level, place_before, requester_at}
-use Rattle.vme_standings.specs.Grants.{behind_release, behind_take, can_release, is_asked, is_taken, may_end}
+use Rattle.vme_standings.specs.GrantChains.{is_of_level, place_before, requester_at}
+use Rattle.vme_standings.specs.Grants.{behind_release, behind_take, can_release, is_taken, may_end}
 use Rattle.vme_standings.specs.Phases.{HasExactly, has_phase}
 use Rattle.vme_standings.specs.InPhase.{AreAsked, CoversGrants, InPhase, is_place_low}
 use Rattle.vme_standings.proofs.Tests.{both, never}

@@ -1,5 +1,5 @@
 -- The law of the grants and BBSY* behind an edge that no probe sees.
-use Rattle.std.proofs.Common.{◌≡◌, ◌∙◌, refl, sym, ap, subst, ℕ, zero, suc, Bool, true, false, List, ◌∷◌, ◌<◌, ◌≤◌, arith}
+use Rattle.std.proofs.Common.{◌≡◌, ◌∙◌, refl, sym, ap, subst, ℕ, zero, suc, Bool, true, false, List, ◌∷◌, ◌<◌, arith}
 use Rattle.std.specs.Prelude.{◌==◌, ◌&&◌, ◌||◌, if◌then◌else◌, nat_le, nat_lt, not, Option, Some, None, option_map}
 use Rattle.std.specs.Option.{option_and_then, option_map_or}
 use Rattle.std.proofs.lemmas.Bool.Decides.{nat_tests}
@@ -20,13 +20,12 @@ use Rattle.vme_model.specs.History.{drive, last_level as last_granted, line, seg
 use Rattle.vme_model.specs.Verdict.{IsLegal}
 use Rattle.vme_model.proofs.AllowedEdges.{all_passed}
 use Rattle.vme_model.proofs.Ranges.{in_range}
-use Rattle.vme_model.proofs.Members.{HasLevel, line_low}
+use Rattle.vme_model.proofs.Members.{line_low}
 use Rattle.vme_histories.proofs.AllowedBoards.{at, at_head, own_after, stands}
 use Rattle.vme_bus.specs.declared.sets.SlotSet.{SlotSet}
 use Rattle.vme_captures.specs.declared.signals.Line.TheVariants as on_line
 use Rattle.vme_captures.specs.declared.signals.Pin.{Pin}
 use Rattle.vme_captures.specs.Changes.{line_of, seen, segment_of}
-use Rattle.vme_captures.specs.Wires.{pin_on}
 use Rattle.vme_standings.specs.declared.phases.GrantPhase.{GrantPhase}
 use Rattle.vme_standings.specs.declared.phases.GrantPhase.TheVariants.{Idle, Granting, Held, Expired}
 use Rattle.vme_standings.specs.declared.phases.GrantPhases.{GrantPhases}

@@ -1,6 +1,6 @@
 -- The laws of the grants and BBSY* behind a change of a BR line, of AS* or of BCLR*.
-use Rattle.std.proofs.Common.{◌≡◌, ◌∙◌, refl, sym, ap, subst, ℕ, zero, suc, Bool, true, false, List, ◌∷◌, ◌<◌, ◌≤◌, arith}
-use Rattle.std.specs.Prelude.{◌==◌, ◌&&◌, ◌||◌, if◌then◌else◌, nat_le, nat_lt, not, Option, Some, None, option_map}
+use Rattle.std.proofs.Common.{◌≡◌, ◌∙◌, refl, sym, ap, subst, ℕ, Bool, true, false, List, ◌∷◌, ◌<◌, ◌≤◌, arith}
+use Rattle.std.specs.Prelude.{◌==◌, ◌&&◌, ◌||◌, nat_le, nat_lt, not, Option, Some, None, option_map}
 use Rattle.std.specs.List.{list_any, list_all}
 use Rattle.std.specs.Option.{option_and_then, option_map_or}
 use Rattle.std.proofs.lemmas.Bool.Decides.{nat_tests}
@@ -22,14 +22,13 @@ use Rattle.vme_model.specs.History.{drive, last_level as last_granted, line, req
 use Rattle.vme_model.specs.Readings.{readings}
 use Rattle.vme_model.specs.Rules.{are_grants_high, bus_numbers, is_pri}
 use Rattle.vme_model.specs.Verdict.{IsLegal}
-use Rattle.vme_model.proofs.Bools.{and_left, and_right, is_false, is_true, not_true, same_number}
-use Rattle.vme_model.proofs.AllowedEdges.{Passed, all_passed}
+use Rattle.vme_model.proofs.Bools.{and_left, and_right, is_false, not_true, same_number}
+use Rattle.vme_model.proofs.AllowedEdges.{all_passed}
 use Rattle.vme_model.proofs.Grants.{grants_high}
 use Rattle.vme_histories.proofs.AllowedBoards.{at, at_head}
 use Rattle.vme_bus.specs.declared.sets.SlotSet.{SlotSet}
 use Rattle.vme_bus.specs.Sets.{has}
 use Rattle.vme_captures.specs.declared.signals.Change.{Change}
-use Rattle.vme_captures.specs.declared.signals.Line.{Line}
 use Rattle.vme_captures.specs.declared.signals.Line.TheVariants as on_line
 use Rattle.vme_captures.specs.declared.signals.Pin.{Pin}
 use Rattle.vme_captures.specs.declared.signals.Signal.TheVariants as signal
@@ -44,7 +43,7 @@ use Rattle.vme_standings.specs.Grants.{IsBehindRequest, are_alike, is_asked_abov
 use Rattle.vme_standings.specs.LowSegments.{is_segment}
 use Rattle.vme_standings.specs.Phases.{HasExactly, has_phase, is_held_by, is_in_table}
 use Rattle.vme_standings.specs.Requests.{IsBy}
-use Rattle.vme_standings.specs.InPhase.{AreAsked, CoversGrants, InPhase, is_place_low}
+use Rattle.vme_standings.specs.InPhase.{AreAsked, CoversGrants, InPhase}
 use Rattle.vme_standings.proofs.Tests.{both, never}
 use Rattle.vme_standings.proofs.WhoDrives.{fall_by, fell, holds_bus, line_shows}
 use Rattle.vme_standings.proofs.RequestSteps.{same_driver}

@@ -1,17 +1,14 @@
 -- The laws of the grant chains, behind an edge that the probes see.
 use Rattle.std.proofs.Common.{◌≡◌, ◌∙◌, refl, sym, ap, subst, ℕ, zero, suc, Bool, true, false, List, ◌∷◌, ◌<◌, arith}
-use Rattle.std.specs.Prelude.{◌==◌, ◌&&◌, ◌||◌, if◌then◌else◌, nat_lt, not, Option, Some}
+use Rattle.std.specs.Prelude.{◌==◌, ◌&&◌, ◌||◌, if◌then◌else◌, nat_lt, not, Some}
 use Rattle.std.proofs.lemmas.Bool.Decides.{nat_tests}
 use Rattle.vme_model.specs.declared.sets.BusLevels.{BusLevels}
 use Rattle.vme_model.specs.declared.signals.Version.{Version}
-use Rattle.vme_model.specs.declared.signals.Cycle.{Cycle}
-use Rattle.vme_model.specs.declared.signals.Driver.{Driver}
 use Rattle.vme_model.specs.declared.signals.Driver.TheVariants.{Controller, Slot}
-use Rattle.vme_model.specs.declared.signals.Wire.{Wire}
 use Rattle.vme_model.specs.declared.signals.Wire.TheVariants.{Bg, BgOut}
 use Rattle.vme_model.specs.declared.signals.Edge.{Edge}
 use Rattle.vme_model.specs.Signals.{is_two}
-use Rattle.vme_model.specs.Plan.{Plan, board_of}
+use Rattle.vme_model.specs.Plan.{Plan}
 use Rattle.vme_model.specs.Accepted.{IsAccepted}
 use Rattle.vme_model.specs.History.{last_level as last_granted}
 use Rattle.vme_model.specs.Verdict.{IsLegal}
@@ -21,7 +18,7 @@ use Rattle.vme_histories.proofs.AllowedBoards.{at, at_head}
 use Rattle.vme_captures.specs.declared.signals.Change.{Change}
 use Rattle.vme_captures.specs.declared.signals.Pin.{Pin}
 use Rattle.vme_captures.specs.declared.signals.Signal.TheVariants as signal
-use Rattle.vme_captures.specs.Changes.{seen, segment_of}
+use Rattle.vme_captures.specs.Changes.{seen}
 use Rattle.vme_captures.specs.Wires.{wire_of}
 use Rattle.vme_standings.specs.declared.phases.GrantPhase.{GrantPhase}
 use Rattle.vme_standings.specs.declared.phases.GrantPhase.TheVariants.{Idle, Granting, Held, Expired}
@@ -38,7 +35,7 @@ use Rattle.vme_standings.proofs.UnseenPhases.{some_level}
 use Rattle.vme_standings.proofs.GrantPlaces.{above_zero, follower_on, near}
 use Rattle.vme_standings.proofs.GrantSegments.{OfGrant, of_grant}
 use Rattle.vme_standings.proofs.PhaseSteps.{equal, last_few}
-use Rattle.vme_standings.proofs.GrantTurns.{AllRun, GoneBack, KeptBy, RunOn, Turns, back_turns, grant_few, grant_from, grant_picked, grant_to, pass_before_end, pass_from, pass_level, pass_to, rise_level, rise_turns}
+use Rattle.vme_standings.proofs.GrantTurns.{AllRun, GoneBack, KeptBy, RunOn, Turns, back_turns, grant_from, grant_picked, grant_to, pass_before_end, pass_from, pass_level, pass_to, rise_level, rise_turns}
 
 three : (a b c : Bool) → a ≡ true → b ≡ true → c ≡ true → (a && b && c) ≡ true
 three a b c x y z = grind arith

@@ -1,6 +1,6 @@
 -- The laws of the grants and BBSY*, behind an edge that the probes see.
-use Rattle.std.proofs.Common.{◌≡◌, ◌∙◌, refl, sym, ap, subst, ℕ, Bool, true, false, List, ◌∷◌}
-use Rattle.std.specs.Prelude.{Option, Some}
+use Rattle.std.proofs.Common.{◌≡◌, sym, subst, ℕ, Bool, true, false, List, ◌∷◌}
+use Rattle.std.specs.Prelude.{Some}
 use Rattle.vme_model.specs.declared.sets.BusLevels.{BusLevels}
 use Rattle.vme_model.specs.declared.signals.Version.{Version}
 use Rattle.vme_model.specs.declared.signals.Driver.TheVariants.{Slot}

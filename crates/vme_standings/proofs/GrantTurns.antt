@@ -1,6 +1,6 @@
 -- What the rules say of an edge of a grant chain, by the phase before it.
-use Rattle.std.proofs.Common.{◌≡◌, ◌≢◌, ◌⊎◌, ◌∙◌, refl, sym, ap, subst, ℕ, zero, suc, Bool, true, false, List, [], ◌∷◌, ◌<◌, ◌≤◌, arith, inl, inr, ⊎_elim}
-use Rattle.std.specs.Prelude.{◌==◌, ◌&&◌, ◌||◌, if◌then◌else◌, nat_le, nat_lt, not, Option, Some, None}
+use Rattle.std.proofs.Common.{◌≡◌, ◌⊎◌, ◌∙◌, refl, sym, ap, subst, ℕ, Bool, true, false, List, [], ◌∷◌, ◌<◌, ◌≤◌, arith, inl, inr, ⊎_elim}
+use Rattle.std.specs.Prelude.{◌==◌, ◌&&◌, ◌||◌, if◌then◌else◌, nat_le, not, Option, Some, None}
 use Rattle.std.specs.List.{list_all, list_any}
 use Rattle.std.specs.Option.{option_map_or}
 use Rattle.std.proofs.lemmas.Bool.Decides.{nat_tests}
@@ -10,7 +10,6 @@ use Rattle.vme_model.specs.declared.signals.Version.{Version}
 use Rattle.vme_model.specs.declared.signals.Cycle.{Cycle}
 use Rattle.vme_model.specs.declared.signals.Driver.{Driver}
 use Rattle.vme_model.specs.declared.signals.Driver.TheVariants.{Controller, Slot}
-use Rattle.vme_model.specs.declared.signals.Wire.{Wire}
 use Rattle.vme_model.specs.declared.signals.Wire.TheVariants.{Bg, BgOut, Bbsy, Br}
 use Rattle.vme_model.specs.declared.signals.Edge.{Edge}
 use Rattle.vme_model.specs.Signals.{is_grant, is_same_wire, is_two}
@@ -18,12 +17,12 @@ use Rattle.vme_model.specs.Sets.{has_bus_level}
 use Rattle.vme_model.specs.Plan.{Plan, board_of, grant_chain, last_active, requests_on}
 use Rattle.vme_model.specs.Accepted.{IsAccepted}
 use Rattle.vme_model.specs.GrantSafety.{IsAwaited, IsLow, Travels, was_withdrawn, withdraws}
-use Rattle.vme_model.specs.History.{drive, input, is_past_end, last_level as last_granted, line, request_line, segment}
+use Rattle.vme_model.specs.History.{drive, is_past_end, last_level as last_granted, line, request_line}
 use Rattle.vme_model.specs.Readings.{grant_in, readings}
-use Rattle.vme_model.specs.Rules.{are_grants_high, bus_numbers, is_pick, pick}
+use Rattle.vme_model.specs.Rules.{are_grants_high, is_pick}
 use Rattle.vme_model.specs.Settling.{are_grants_through}
 use Rattle.vme_model.specs.Verdict.{IsLegal}
-use Rattle.vme_model.proofs.Bools.{and_left, and_right, is_false, not_true, same_number}
+use Rattle.vme_model.proofs.Bools.{and_left, and_right, is_false, not_true}
 use Rattle.vme_model.proofs.AllowedEdges.{Passed, all_passed}
 use Rattle.vme_model.proofs.Picks.{laws_of, one_pick}
 use Rattle.vme_model.proofs.Ranges.{IsInRange, IsRowInRange, in_range}
@@ -41,7 +40,7 @@ use Rattle.vme_standings.specs.InPhase.{AreAsked, InPhase, is_place_low}
 use Rattle.vme_standings.proofs.Tests.{both, never}
 use Rattle.vme_standings.proofs.WhoDrives.{silent_on}
 use Rattle.vme_standings.proofs.GrantPlaces.{above_zero, board_segment, end_last, end_low, end_segment, from_one, next, place_low}
-use Rattle.vme_standings.proofs.PhaseSteps.{Back, Freed, Moves, Risen, RunOut, Taken, Waits, back_at, board_moves, equal, expired_last, expired_on, few_some, goes_back, granted, head_moves, held_on, idle_in, in_expired, is_upto, last_few, passed, past_all, rises_at, run, stands_at, under, upto_holder}
+use Rattle.vme_standings.proofs.PhaseSteps.{Back, Freed, Moves, Risen, RunOut, Taken, Waits, back_at, board_moves, equal, expired_last, expired_on, few_some, goes_back, granted, head_moves, held_on, idle_in, in_expired, is_upto, last_few, passed, past_all, rises_at, run, stands_at, under}
 use Rattle.vme_standings.proofs.GrantEdges.{board_low}
 
 -- a board of the level withdrew its request: there is one

@@ -1,6 +1,6 @@
 -- How an edge leads from one phase of the grants and BBSY* to the next.
-use Rattle.std.proofs.Common.{◌≡◌, ◌≢◌, ◌⊎◌, ◌∙◌, refl, sym, ap, subst, ℕ, zero, suc, Bool, true, false, List, [], ◌∷◌, ◌<◌, ◌≤◌, arith, inl, inr, ⊎_elim}
-use Rattle.std.specs.Prelude.{◌==◌, ◌&&◌, if◌then◌else◌, nat_le, nat_lt, Option, Some, None, option_map}
+use Rattle.std.proofs.Common.{◌≡◌, ◌⊎◌, ◌∙◌, refl, sym, ap, subst, ℕ, zero, suc, Bool, true, false, List, [], ◌∷◌, ◌<◌, ◌≤◌, arith, ⊎_elim}
+use Rattle.std.specs.Prelude.{◌==◌, ◌&&◌, if◌then◌else◌, nat_le, nat_lt, Option, Some, option_map}
 use Rattle.std.specs.Option.{option_map_or}
 use Rattle.std.proofs.lemmas.Bool.Decides.{nat_tests}
 use Rattle.vme_model.specs.declared.boards.RequesterRow.{RequesterRow}
@@ -27,7 +27,7 @@ use Rattle.vme_standings.specs.GrantChains.{end_place, is_follower, is_of_level,
 use Rattle.vme_standings.specs.LowSegments.{is_in_run, is_segment}
 use Rattle.vme_standings.specs.InPhase.{InPhase, is_named, is_place_low}
 use Rattle.vme_standings.proofs.Tests.{and_true, both, never}
-use Rattle.vme_standings.proofs.GrantPlaces.{IsBefore, above_zero, before, board_segment, end_last, end_segment, follower_before, follower_on, from_one, has_requester, one_level, segment_is}
+use Rattle.vme_standings.proofs.GrantPlaces.{IsBefore, before, board_segment, end_last, end_segment, follower_before, follower_on, from_one, has_requester, one_level}
 
 nothing : (b : Bool) → (b && false) ≡ false
 nothing true = refl
