@@ -101,6 +101,9 @@ module _ (version : Version) (p : Plan) (ok : IsAccepted p) (h : List Edge) (s :
     pub take_from : (q : GrantPhase) → InPhase p h q → q ≡ Granting take_level.level (place_before p take_level.level s)
     take_from q i = stands_at p ok h take_level.level s take_level.in_range take_level.member q i take_input take_output take_passed.before
 
+    pub take_to : (q : GrantPhase) → InPhase p h q → InPhase p (at s Bbsy true v ∷ h) (Held s 0)
+    take_to q i = held_behind p ok h take_level.level s take_level.in_range take_level.member v (subst (InPhase p h) (take_from q i) i)
+
     module _ (requests : BusLevels) (asked : AreAsked p h requests) (old : GrantPhases) (covers : CoversGrants p h old) where
       take_asked : has_bus_level requests take_level.level ≡ true
       take_asked = asked take_level.level take_level.in_range ∙ asks_on p ok h take_level.level s take_level.member (and_right (grant_in p h (Slot s) && not (drive h (Slot s) BgOut)) (drive h (Slot s) Br) take_passed.rule)
@@ -121,7 +124,7 @@ module _ (version : Version) (p : Plan) (ok : IsAccepted p) (h : List Edge) (s :
       pub take_covers : (new : GrantPhases) → HasExactly new (behind_take p requests old) → CoversGrants p (at s Bbsy true v ∷ h) new
       take_covers new exact = record {
         phase = Held s 0;
-        is_in = held_behind p ok h take_level.level s take_level.in_range take_level.member v (subst (InPhase p h) (take_from covers.phase covers.is_in) covers.is_in);
+        is_in = take_to covers.phase covers.is_in;
         member = exact.held s 0 (near p ok take_level.level s take_level.member) (omega arith) ∙ take_able;
       }
 
@@ -169,7 +172,7 @@ module _ (version : Version) (p : Plan) (ok : IsAccepted p) (h : List Edge) (s :
         phase = Idle give_level.level;
         is_in = give_to covers.phase covers.is_in;
         member =
-          exact.idle give_level.level give_level.in_range
-          ∙ both (nat_lt give_level.level 4) (list_any (can_release p requests old) (active p (grant_chain give_level.level))) (is_few give_level.level give_level.in_range)
-          (any_of (can_release p requests old) (active p (grant_chain give_level.level)) s (is_member p (in_range p ok) give_level.level s give_level.in_range give_level.member) give_able);
+            exact.idle give_level.level give_level.in_range
+            ∙ both (nat_lt give_level.level 4) (list_any (can_release p requests old) (active p (grant_chain give_level.level))) (is_few give_level.level give_level.in_range)
+            (any_of (can_release p requests old) (active p (grant_chain give_level.level)) s (is_member p (in_range p ok) give_level.level s give_level.in_range give_level.member) give_able);
       }

@@ -114,23 +114,23 @@ module _ (version : Version) (p : Plan) (ok : IsAccepted p) (pins : List Pin) (h
     phase = Expired m f;
     is_in = i;
     member =
-      leads_on (Expired m x) (Expired m f) (is_few m few)
-      (both (m == m && is_follower p m x f) (is_two version && is_unseen probed m x) (both (m == m) (is_follower p m x f) (equal m m refl) follows) (both (is_two version) (is_unseen probed m x) two free)) same;
+        leads_on (Expired m x) (Expired m f) (is_few m few)
+        (both (m == m && is_follower p m x f) (is_two version && is_unseen probed m x) (both (m == m) (is_follower p m x f) (equal m m refl) follows) (both (is_two version) (is_unseen probed m x) two free)) same;
   }
   turn_covers e m x few free (AllRun two from end same i) = record {
     phase = Idle m;
     is_in = i;
     member =
-      leads_on (Expired m x) (Idle m) (is_few m few)
-      (both (m == m) _ (equal m m refl) (both (is_two version) _ two (both (is_unseen probed m x) (x == end_place p m) free (equal x (end_place p m) end)))) same;
+        leads_on (Expired m x) (Idle m) (is_few m few)
+        (both (m == m) _ (equal m m refl) (both (is_two version) _ two (both (is_unseen probed m x) (x == end_place p m) free (equal x (end_place p m) end)))) same;
   }
   turn_covers e m x few free (GoneBack f two first follows same i) = record {
     phase = Expired m f;
     is_in = i;
     member =
-      leads_on (Granting m (end_place p m)) (Expired m f) (is_few m few)
-      (both (m == m && is_follower p m 0 f) _ (both (m == m) (is_follower p m 0 f) (equal m m refl) follows)
-      (both (is_two version) _ two (both (is_unseen probed m 0) (end_place p m == end_place p m) (subst (λ y. is_unseen probed m y ≡ true) first free) (equal (end_place p m) (end_place p m) refl)))) same;
+        leads_on (Granting m (end_place p m)) (Expired m f) (is_few m few)
+        (both (m == m && is_follower p m 0 f) _ (both (m == m) (is_follower p m 0 f) (equal m m refl) follows)
+        (both (is_two version) _ two (both (is_unseen probed m 0) (end_place p m == end_place p m) (subst (λ y. is_unseen probed m y ≡ true) first free) (equal (end_place p m) (end_place p m) refl)))) same;
   }
 
   abbrev Unseen : Edge → Type 0
@@ -146,8 +146,8 @@ module _ (version : Version) (p : Plan) (ok : IsAccepted p) (pins : List Pin) (h
         phase = Granting n 0;
         is_in = grant_to version p ok h n v legal covers.phase covers.is_in;
         member =
-          leads_on (Idle (last_granted h)) (Granting n 0) (is_few (last_granted h) (last_few version p h legal.1))
-          (both (is_unseen probed n 0) (0 == 0 && is_picked p requests (last_granted h) n) free (grant_picked version p ok h n v legal requests asked)) same;
+            leads_on (Idle (last_granted h)) (Granting n 0) (is_few (last_granted h) (last_few version p h legal.1))
+            (both (is_unseen probed n 0) (0 == 0 && is_picked p requests (last_granted h) n) free (grant_picked version p ok h n v legal requests asked)) same;
       }
 
   unseen_back : (n : ℕ) (v : Option Cycle) → Unseen (at_head (Bg n) false v)
@@ -174,12 +174,12 @@ module _ (version : Version) (p : Plan) (ok : IsAccepted p) (pins : List Pin) (h
         phase = Granting l.level s;
         is_in = pass_to version p ok h s v legal covers.phase covers.is_in;
         member =
-          leads_on (Granting l.level (place_before p l.level s)) (Granting l.level s) (is_few l.level l.in_range)
-          (both (l.level == l.level && is_follower p l.level (place_before p l.level s) s) _
-          (both (l.level == l.level) (is_follower p l.level (place_before p l.level s) s) (equal l.level l.level refl)
-          (both (is_of_level p l.level s) (place_before p l.level s == place_before p l.level s) l.member (equal (place_before p l.level s) (place_before p l.level s) refl)))
-          (both (is_two version || not (s == end_place p l.level)) (is_unseen probed l.level s) (pass_before_end version p ok h s v legal covers.phase covers.is_in) free))
-          (pass_from version p ok h s v legal covers.phase covers.is_in);
+            leads_on (Granting l.level (place_before p l.level s)) (Granting l.level s) (is_few l.level l.in_range)
+            (both (l.level == l.level && is_follower p l.level (place_before p l.level s) s) _
+            (both (l.level == l.level) (is_follower p l.level (place_before p l.level s) s) (equal l.level l.level refl)
+            (both (is_of_level p l.level s) (place_before p l.level s == place_before p l.level s) l.member (equal (place_before p l.level s) (place_before p l.level s) refl)))
+            (both (is_two version || not (s == end_place p l.level)) (is_unseen probed l.level s) (pass_before_end version p ok h s v legal covers.phase covers.is_in) free))
+            (pass_from version p ok h s v legal covers.phase covers.is_in);
       }
 
   unseen_rise : (s : ℕ) (v : Option Cycle) → Unseen (at s BgOut false v)

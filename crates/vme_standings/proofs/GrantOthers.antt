@@ -116,8 +116,8 @@ of_request p e n is = by_wire e.driver e.wire refl refl is
           driver = driver;
           wire = w;
           member =
-            ap (λ (o : Option Row). option_map_or (requests_on n) o false) found
-            ∙ (ap (λ (o : Option RequesterRow). option_map_or (λ y. y.level == n) o false) at ∙ equal q.level n same);
+              ap (λ (o : Option Row). option_map_or (requests_on n) o false) found
+              ∙ (ap (λ (o : Option RequesterRow). option_map_or (λ y. y.level == n) o false) at ∙ equal q.level n same);
         }
 
     by_board : (t : ℕ) (o : Option Row) → board p t ≡ o → e.driver ≡ Slot t → e.wire ≡ wire.Br → line_of wire.Br o ≡ Some (on_line.Br n) → OfRequest p e n

@@ -53,19 +53,19 @@ module _ (version : Version) (p : Plan) (ok : IsAccepted p) (h : List Edge) (e :
     phase = Held k f;
     is_in = i;
     member =
-      exact.held k f (near p ok m k member) (within f follows)
-      ∙ both (is_let_go p m x old k) (is_follower p m x f)
-      (three (nat_lt x k) (is_of_level p m k) (has_phase old (Held k x)) (less x k l) member (subst (λ r. has_phase old r ≡ true) same on))
-      follows;
+        exact.held k f (near p ok m k member) (within f follows)
+        ∙ both (is_let_go p m x old k) (is_follower p m x f)
+        (three (nat_lt x k) (is_of_level p m k) (has_phase old (Held k x)) (less x k l) member (subst (λ r. has_phase old r ≡ true) same on))
+        follows;
   }
   turn_covers q on (RunOn f two from follows same i) = record {
     phase = Expired m f;
     is_in = i;
     member =
-      exact.expired m f few (within f follows)
-      ∙ three (m == m) (is_run_out p version m x old) (is_follower p m x f) (equal m m refl)
-      (both (is_two version) _ two (further x from (has_phase old (Granting m (end_place p m))) (has_phase old (Expired m x)) (subst (λ r. has_phase old r ≡ true) same on)))
-      follows;
+        exact.expired m f few (within f follows)
+        ∙ three (m == m) (is_run_out p version m x old) (is_follower p m x f) (equal m m refl)
+        (both (is_two version) _ two (further x from (has_phase old (Granting m (end_place p m))) (has_phase old (Expired m x)) (subst (λ r. has_phase old r ≡ true) same on)))
+        follows;
   }
     where
       further : (x : ℕ) → 0 < x → (a b : Bool) → b ≡ true → (if x == 0 then a else b) ≡ true
@@ -74,10 +74,10 @@ module _ (version : Version) (p : Plan) (ok : IsAccepted p) (h : List Edge) (e :
     phase = Idle m;
     is_in = i;
     member =
-      exact.idle m few
-      ∙ three (m == m) (is_run_out p version m x old) (x == end_place p m) (equal m m refl)
-      (both (is_two version) _ two (further x from (has_phase old (Granting m (end_place p m))) (has_phase old (Expired m x)) (subst (λ r. has_phase old r ≡ true) same on)))
-      (equal x (end_place p m) end);
+        exact.idle m few
+        ∙ three (m == m) (is_run_out p version m x old) (x == end_place p m) (equal m m refl)
+        (both (is_two version) _ two (further x from (has_phase old (Granting m (end_place p m))) (has_phase old (Expired m x)) (subst (λ r. has_phase old r ≡ true) same on)))
+        (equal x (end_place p m) end);
   }
     where
       further : (x : ℕ) → 0 < x → (a b : Bool) → b ≡ true → (if x == 0 then a else b) ≡ true
@@ -88,10 +88,10 @@ module _ (version : Version) (p : Plan) (ok : IsAccepted p) (h : List Edge) (e :
         phase = Expired m f;
         is_in = i;
         member =
-          exact.expired m f few (within f own)
-          ∙ three (m == m) (is_run_out p version m x old) (is_follower p m x f) (equal m m refl)
-          (both (is_two version) _ two (first x none (has_phase old (Granting m (end_place p m))) (has_phase old (Expired m x)) (subst (λ r. has_phase old r ≡ true) same on)))
-          own;
+            exact.expired m f few (within f own)
+            ∙ three (m == m) (is_run_out p version m x old) (is_follower p m x f) (equal m m refl)
+            (both (is_two version) _ two (first x none (has_phase old (Granting m (end_place p m))) (has_phase old (Expired m x)) (subst (λ r. has_phase old r ≡ true) same on)))
+            own;
       }
     where
       first : (x : ℕ) → x ≡ 0 → (a b : Bool) → a ≡ true → (if x == 0 then a else b) ≡ true

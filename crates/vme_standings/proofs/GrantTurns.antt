@@ -96,7 +96,7 @@ module _ (version : Version) (p : Plan) (ok : IsAccepted p) (h : List Edge) (leg
   abbrev Wanted : ℕ → Type 0
   Wanted m = IsAwaited p h m ⊎ ((is_two version ≡ true) × (was_withdrawn p h m ≡ true))
 
-  wanted : (m last : ℕ) → m < 4 → InPhase p h (Granting m last) → Wanted m
+  pub wanted : (m last : ℕ) → m < 4 → InPhase p h (Granting m last) → Wanted m
   wanted m last few i =
       none_lost version p range h now m (free_high (λ s. i.held s))
       (record {

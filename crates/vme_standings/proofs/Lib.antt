@@ -56,3 +56,5 @@ pub mod GrantRows
 pub mod GrantHidden
 -- the laws of the grants and BBSY* behind a change of a BR line, of AS* or of BCLR*
 pub mod GrantOthers
+-- every bus that keeps the rules is in a phase of the grants and BBSY*: `grant_laws`
+pub mod GrantBegins

@@ -70,7 +70,7 @@ few_some a b e l = let same : a ≡ b = cc in omega (arith, same, l)
 in_granting : (c m y last : ℕ) → (c == m && nat_le y last) ≡ true → (c ≡ m) × (y ≤ last)
 in_granting c m y last e = (same_number c m (and_left (c == m) _ e), upto y last (and_right (c == m) _ e))
 
-past_granting : (c m x last : ℕ) → (c == m && nat_le x last) ≡ false → c ≡ m → last < x
+pub past_granting : (c m x last : ℕ) → (c == m && nat_le x last) ≡ false → c ≡ m → last < x
 past_granting c m x last e same = grind (arith, nat_tests)
 
 pub in_expired : (c m y first : ℕ) → (c == m && nat_le first y) ≡ true → (c ≡ m) × (first ≤ y)

@@ -2,7 +2,7 @@
 -- segment of a grant chain is named by the slot of the board that drives it, and 0 names the
 -- controller's. (The chains are those of chapter 3; that these are the phases of a tenure is this
 -- project's profile.)
-use Rattle.std.specs.Prelude.{◌≡◌, ◌==◌, ◌&&◌, ◌<◌, ℕ, zero, suc, Bool, true, false, List, Some, None, nat_le}
+use Rattle.std.specs.Prelude.{◌≡◌, ◌==◌, ◌&&◌, ◌<◌, ℕ, zero, suc, Bool, true, false, List, Some, None, nat_le, slice_index_or}
 use Rattle.std.specs.Option.{option_map_or}
 use Rattle.vme_model.specs.declared.signals.Driver.TheVariants.{Controller, Slot}
 use Rattle.vme_model.specs.declared.signals.Edge.{Edge}
@@ -13,6 +13,7 @@ use Rattle.vme_model.specs.History.{drive, last_level as last_granted, request_l
 use Rattle.vme_model.specs.Plan.{Plan, grant_chain}
 use Rattle.vme_model.specs.Sets.{has_bus_level}
 use Rattle.vme_bus.specs.declared.sets.SlotSet.{SlotSet}
+use Rattle.vme_bus.specs.Sets.{has}
 use Rattle.vme_captures.specs.declared.signals.Pin.{Pin}
 use Rattle.vme_captures.specs.declared.signals.Segment.{Segment}
 use Rattle.vme_captures.specs.Wires.{pin_on}
@@ -22,7 +23,7 @@ use Rattle.vme_standings.specs.declared.phases.GrantPhases.{GrantPhases}
 use Rattle.vme_standings.specs.Cuts.{last_level}
 use Rattle.vme_standings.specs.GrantChains.{is_of_level, requester_at}
 use Rattle.vme_standings.specs.LowSegments.{is_low_in, is_segment}
-use Rattle.vme_standings.specs.Phases.{has_phase, is_held_by}
+use Rattle.vme_standings.specs.Phases.{has_phase, is_held_by, no_slots}
 use Rattle.vme_standings.specs.Unseen.{has_row_for, is_unseen, leads}
 
 -- the segment of the level's chain is low
@@ -78,3 +79,10 @@ abbrev pub HasUnseen : Version → Plan → BusLevels → List SlotSet → Grant
 HasUnseen version p requests probed set =
     (q r : GrantPhase) → has_row_for q ≡ true → leads p version requests probed q r ≡ true
     → has_phase set q ≡ true → has_phase set r ≡ true
+
+-- each place of the probed rows is a segment of its chain, which is low exactly if the other row
+-- has it
+abbrev pub AreShown : Plan → List Edge → List SlotSet → List SlotSet → Type 0
+AreShown p h probed low =
+    (c s : ℕ) → c < 4 → s < 22 → has (slice_index_or probed c no_slots) s ≡ true
+    → (is_segment p c s ≡ true) × (has (slice_index_or low c no_slots) s ≡ is_place_low h c s)

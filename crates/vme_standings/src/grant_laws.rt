@@ -6,7 +6,7 @@
 ghost use Rattle.std.specs.Prelude.{◌≡◌, ◌≢◌, ◌∷◌, ◌&&◌, ◌||◌, ◌<◌, ℕ, true, false, Some, None, List, []};
 ghost use Rattle.vme_bus.specs.Sets.{has};
 ghost use Rattle.vme_bus.specs.declared.sets.SlotSet.{SlotSet};
-ghost use Rattle.vme_captures.specs.Changes.{seen};
+ghost use Rattle.vme_captures.specs.Changes.{is_line_low, seen};
 ghost use Rattle.vme_captures.specs.Wires.{wire_of};
 ghost use Rattle.vme_captures.specs.declared.signals.Change.{Change};
 ghost use Rattle.vme_captures.specs.declared.signals.Line.TheVariants as line;
@@ -21,23 +21,35 @@ ghost use Rattle.vme_model.specs.declared.signals.Driver.TheVariants.{Controller
 ghost use Rattle.vme_model.specs.declared.signals.Edge.{Edge};
 ghost use Rattle.vme_model.specs.declared.signals.Version.{Version};
 ghost use Rattle.vme_model.specs.declared.signals.Wire.TheVariants.{Bbsy, Bg, BgOut};
+ghost use Rattle.vme_standings.specs.Beginnings.{CanBegin};
 ghost use Rattle.vme_standings.specs.Driving.{AreAskers, AreWithdrawers};
 ghost use Rattle.vme_standings.specs.GrantChains.{is_of_level};
 ghost use Rattle.vme_standings.specs.Grants.{IsBehindRequest, are_alike, behind_grant, behind_pass, behind_release, behind_rise, behind_take, can_release, is_clear_due, is_granted, is_passed, is_taken};
-ghost use Rattle.vme_standings.specs.InPhase.{AreAsked, CoversGrants, HasProbes, HasUnseen, InPhase, IsOfGrant, grant_segment};
-ghost use Rattle.vme_standings.specs.Phases.{HasExactly, has_phase, is_held_by};
+ghost use Rattle.vme_standings.specs.InPhase.{AreAsked, AreShown, CoversGrants, HasProbes, HasUnseen, InPhase, IsOfGrant, grant_segment};
+ghost use Rattle.vme_standings.specs.Phases.{HasExactly, has_phase, is_held_by, is_in_table};
 ghost use Rattle.vme_standings.specs.Requests.{IsBy};
 ghost use Rattle.vme_standings.specs.Unseen.{has_row_for};
 ghost use Rattle.vme_standings.specs.declared.phases.GrantPhase.{GrantPhase as PhaseValue};
 ghost use Rattle.vme_standings.specs.declared.phases.GrantPhase.TheVariants.{Held, Idle};
 ghost use Rattle.vme_standings.specs.declared.phases.GrantPhases.{GrantPhases};
 
-/// What is known stays true. At power-up nobody holds the bus, no grant is low, and the level last
-/// granted is 0. The hidden moves keep the bus covered. So does an edge that no probe sees, if the
-/// set has the phases to which such edges lead, and so does any edge that is neither of a grant
-/// chain nor of BBSY*.
-pub fn unseen_edge_keeps_grants_covered()
+/// Every bus that keeps the rules is in a phase: at power-up nobody holds it, no grant is low, and
+/// the level last granted is 0. The phases with which a capture of a running bus begins cover it.
+///
+/// The hidden moves keep the bus covered. So does an edge that no probe sees, if the set has the
+/// phases to which such edges lead, and so does any edge that is neither of a grant chain nor of
+/// BBSY*.
+pub fn grants_stay_covered()
     ensures power_up { (p : Plan) → InPhase p [] (Idle 0) }
+    ensures phase { (version : Version) (p : Plan) (h : List Edge) →
+        IsAccepted p → IsLegal version p h → (q : PhaseValue) × InPhase p h q }
+    ensures running { (version : Version) (p : Plan) (h : List Edge) (requests : BusLevels)
+        (probed low : List SlotSet) (new : GrantPhases) →
+        IsAccepted p → IsLegal version p h → AreAsked p h requests → AreShown p h probed low
+        → ((q : PhaseValue) → is_in_table q ≡ true
+        → CanBegin p version requests (is_line_low p h line.Bbsy) probed low q
+        → has_phase new q ≡ true)
+        → CoversGrants p h new }
     ensures moves { (version : Version) (p : Plan) (h : List Edge) (old new : GrantPhases) →
         IsAccepted p → IsLegal version p h
         → ((q : PhaseValue) → has_row_for q ≡ true → has_phase old q ≡ true
@@ -147,7 +159,7 @@ pub fn lines_tell_of_the_phase()
         IsAccepted p → IsLegal version p (e ∷ h) → seen p pins h e ≡ Some v
         → v.signal ≡ signal.Line (line.Br n) → v.fall ≡ false → CoversGrants p h old
         → HasExactly new (λ q.
-            (is_two version || is_held_by (is_of_level p n) q) && has_phase old q)
+        (is_two version || is_held_by (is_of_level p n) q) && has_phase old q)
         → CoversGrants p (e ∷ h) new }
     ensures shown_by { (version : Version) (p : Plan) (pins : List Pin) (h : List Edge) (e : Edge)
         (v : Change) (old : GrantPhases) →
@@ -170,6 +182,6 @@ pub fn lines_tell_of_the_phase()
         IsAccepted p → IsLegal version p (e ∷ h) → seen p pins h e ≡ Some v
         → v.signal ≡ signal.Line line.Bclr → AreAsked p h requests → CoversGrants p h old
         → HasExactly new (λ q.
-            has_phase old q && are_alike (is_clear_due p requests q) v.fall)
+        has_phase old q && are_alike (is_clear_due p requests q) v.fall)
         → CoversGrants p (e ∷ h) new }
 {}
