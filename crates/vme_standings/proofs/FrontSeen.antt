@@ -41,7 +41,7 @@ use Rattle.vme_standings.proofs.SeenEdges.{line_is, segment_is, berr_is, of_segm
 use Rattle.vme_standings.proofs.FrontLaws.{head_asked, head_waits, head_covers, pass_asked, pass_on, pass_reaches, pass_covers, other_covers, answer_reached, answer_covers, error_ends, error_covers}
 
 -- an edge by its parts
-as_edge : (e : Edge) (d : Driver) (w : Wire) (fall : Bool) → e.driver ≡ d → e.wire ≡ w → e.fall ≡ fall → e ≡ record { driver = d; wire = w; fall = fall; value = e.value }
+pub as_edge : (e : Edge) (d : Driver) (w : Wire) (fall : Bool) → e.driver ≡ d → e.wire ≡ w → e.fall ≡ fall → e ≡ record { driver = d; wire = w; fall = fall; value = e.value }
 as_edge e d w fall driver wire way =
     ap (λ x. record { driver = x; wire = e.wire; fall = e.fall; value = e.value }) driver
     ∙ ap (λ x. record { driver = d; wire = x; fall = e.fall; value = e.value }) wire

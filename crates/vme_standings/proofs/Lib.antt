@@ -40,3 +40,23 @@ pub mod FrontLaws
 pub mod FrontSeen
 -- what covers a part of a bus covers it in a union: `union_laws`
 pub mod UnionLaws
+-- the segments of a grant chain, by their order: `grant_laws`
+pub mod GrantPlaces
+-- how an edge leads from one phase of the grants and BBSY* to the next: `grant_laws`
+pub mod PhaseSteps
+-- what the rules say of an edge of the grants or BBSY*, by the phase before it: `grant_laws`
+pub mod GrantEdges
+-- the laws of the grants and BBSY*, behind an edge that the probes see
+pub mod GrantSeen
+-- what the rules say of an edge of a grant chain, by the phase before it: `grant_laws`
+pub mod GrantTurns
+-- which edge moves a segment of a grant chain: `grant_laws`
+pub mod GrantSegments
+-- the laws of the grant chains, behind an edge that the probes see
+pub mod GrantRows
+-- the law of the grants and BBSY* behind an edge that no probe sees
+pub mod GrantHidden
+-- the laws of the grants and BBSY* behind a change of a BR line, of AS* or of BCLR*
+pub mod GrantOthers
+-- every bus that keeps the rules is in a phase of the grants and BBSY*: `grant_laws`
+pub mod GrantBegins

@@ -64,15 +64,16 @@ same_segment a b e =
 wire_is : (p : Plan) (pins : List Pin) (g : Segment) (q : Pin) → pin_on p pins g ≡ Some q → wire_of p q ≡ g
 wire_is p pins g q is = same_segment (wire_of p q) g (found (is_on p g) pins q is)
 
-none_differ : (a b : Bool) (x : Change) → (if differ a b then Some x else None) ≡ None → a ≡ false → b ≡ true → ⊥
-none_differ true b x e off on = absurd (cc)
-none_differ false true x e off on = absurd (cc)
-none_differ false false x e off on = absurd (cc)
+none_differ : (a b : Bool) (x : Change) → (if differ a b then Some x else None) ≡ None → (a ≡ b → ⊥) → ⊥
+none_differ true true x e other = other refl
+none_differ true false x e other = absurd (cc)
+none_differ false true x e other = absurd (cc)
+none_differ false false x e other = other refl
 
--- nothing is seen of a segment that falls only if no probe is on it
-pub unprobed : (p : Plan) (pins : List Pin) (h : List Edge) (e : Edge) (g : Segment) → line_of e.wire (board_of p e.driver) ≡ None → segment_of e.wire (board_of p e.driver) ≡ Some g
-    → segment h g.chain g.place ≡ false → segment (e ∷ h) g.chain g.place ≡ true → seen p pins h e ≡ None → pin_on p pins g ≡ None
-unprobed p pins h e g no_line is high low none = by_pin (pin_on p pins g) refl
+-- nothing is seen of a segment that moves only if no probe is on it
+pub unprobed_moved : (p : Plan) (pins : List Pin) (h : List Edge) (e : Edge) (g : Segment) → line_of e.wire (board_of p e.driver) ≡ None → segment_of e.wire (board_of p e.driver) ≡ Some g
+    → (segment h g.chain g.place ≡ segment (e ∷ h) g.chain g.place → ⊥) → seen p pins h e ≡ None → pin_on p pins g ≡ None
+unprobed_moved p pins h e g no_line is moves none = by_pin (pin_on p pins g) refl
   where
     by_pin : (o : Option Pin) → pin_on p pins g ≡ o → pin_on p pins g ≡ None
     by_pin None at = at
@@ -84,7 +85,16 @@ unprobed p pins h e g no_line is high low none = by_pin (pin_on p pins g) refl
         let unchanged : change_of p h e (signal.Pin q) ≡ None = sym (ap (λ (o : Option Signal). option_and_then (change_of p h e) o) signal_is) ∙ none in
         let wire = wire_is p pins g q at in
         absurd (none_differ (is_low p h (signal.Pin q)) (is_low p (e ∷ h) (signal.Pin q)) (record { signal = signal.Pin q; fall = e.fall; value = value_at p h e e.wire e.fall }) unchanged
-        (ap (λ (x : Segment). segment h x.chain x.place) wire ∙ high) (ap (λ (x : Segment). segment (e ∷ h) x.chain x.place) wire ∙ low))
+        (λ same. moves (sym (ap (λ (x : Segment). segment h x.chain x.place) wire) ∙ (same ∙ ap (λ (x : Segment). segment (e ∷ h) x.chain x.place) wire))))
+
+-- nothing is seen of a segment that falls only if no probe is on it
+pub unprobed : (p : Plan) (pins : List Pin) (h : List Edge) (e : Edge) (g : Segment) → line_of e.wire (board_of p e.driver) ≡ None → segment_of e.wire (board_of p e.driver) ≡ Some g
+    → segment h g.chain g.place ≡ false → segment (e ∷ h) g.chain g.place ≡ true → seen p pins h e ≡ None → pin_on p pins g ≡ None
+unprobed p pins h e g no_line is high low none =
+    unprobed_moved p pins h e g no_line is (λ same. fell (segment h g.chain g.place) (segment (e ∷ h) g.chain g.place) high low same) none
+  where
+    fell : (a b : Bool) → a ≡ false → b ≡ true → a ≡ b → ⊥
+    fell a b off on same = cc
 
 module _ (p : Plan) (pins : List Pin) (h : List Edge) (e : Edge) (v : Change) (s : seen p pins h e ≡ Some v) where
   -- what the edge moves is what was seen
@@ -154,10 +164,10 @@ no_grant false true c e = absurd (cc)
 no_grant false false true e = absurd (cc)
 no_grant false false false e = absurd (cc)
 
-chain_is : (a b : Segment) → Some a ≡ Some b → a.chain ≡ b.chain
+pub chain_is : (a b : Segment) → Some a ≡ Some b → a.chain ≡ b.chain
 chain_is a b e = let same : a ≡ b = cc in ap (λ (x : Segment). x.chain) same
 
-place_is : (a b : Segment) → Some a ≡ Some b → a.place ≡ b.place
+pub place_is : (a b : Segment) → Some a ≡ Some b → a.place ≡ b.place
 place_is a b e = let same : a ≡ b = cc in ap (λ (x : Segment). x.place) same
 
 -- a segment of the acknowledge chain is moved by who drives it

@@ -51,7 +51,7 @@ any_level f e = ⊎_elim (λ a. (0, omega arith, a)) at_one (or_cases (f 0) _ e)
     at_one : (f 1 || (f 2 || (f 3 || false))) ≡ true → (n : ℕ) × (n < 4) × (f n ≡ true)
     at_one e = ⊎_elim (λ a. (1, omega arith, a)) at_two (or_cases (f 1) _ e)
 
-some_level : (f : ℕ → Bool) (n : ℕ) → n < 4 → f n ≡ true → list_any f bus_numbers ≡ true
+pub some_level : (f : ℕ → Bool) (n : ℕ) → n < 4 → f n ≡ true → list_any f bus_numbers ≡ true
 some_level f zero l e = or_left (f 0) _ e
 some_level f (suc zero) l e = or_true (f 0) _ (or_left (f 1) _ e)
 some_level f (suc (suc zero)) l e = or_true (f 0) _ (or_true (f 1) _ (or_left (f 2) _ e))

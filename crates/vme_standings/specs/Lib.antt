@@ -47,3 +47,5 @@ pub mod Beginnings
 pub mod Unseen
 -- words: what is known of a bus of which one of two is known
 pub mod Unions
+-- believe: when a bus is in a phase of the grants and BBSY*, and when a set covers it
+pub mod InPhase

@@ -2,8 +2,8 @@
 //! of the ways in which it may stand, and who may have made each change.
 //!
 //! All combinations of these sets count. A set may hold a way too many, and never one too few:
-//! `laws` proves that of the interrupt requests, and of who drives AS* and DTACK*, and `front_laws`
-//! of how far an acknowledge has come.
+//! `laws` proves that of the interrupt requests, and of who drives AS* and DTACK*, `front_laws` of
+//! how far an acknowledge has come, and `grant_laws` of how the grants and BBSY* stand.
 //!
 //! [`Standings`] has them all. It begins at power-up or on a running bus. At each change
 //! `with_hidden` adds the edges that no probe sees, `drivers` says who may have made the change, and
@@ -19,6 +19,7 @@ mod cycle;
 mod driving;
 pub mod front_laws;
 mod fronts;
+pub mod grant_laws;
 pub mod grants;
 mod hidden;
 mod interrupters;
