@@ -18,6 +18,7 @@ mod jobs;
 mod probes;
 mod reporters;
 mod sums;
+mod tasks;
 
 use arguments::report_words;
 pub use arguments::{WordsFault, given};
