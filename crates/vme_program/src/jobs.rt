@@ -5,10 +5,9 @@ ghost use Rattle.std.specs.Process.{exit_status};
 ghost use Rattle.vme_model.specs.Plan.{Plan as PlanValue};
 ghost use Rattle.vme_model.specs.Report.{trace_limit};
 ghost use Rattle.vme_scenario.specs.Format.{scenario as read};
-ghost use Rattle.vme_command_line.specs.Limits.{IsWithin, IsWithinChoice, IsWithinWork, most_turns};
+ghost use Rattle.vme_command_line.specs.Limits.{IsWithin, IsWithinWork, most_turns};
 ghost use Rattle.vme_trace.specs.Writing.{AppendsFront};
 ghost use Rattle.vme_program.specs.Done.{IsDone, rules_text};
-ghost use Rattle.vme_engines.specs.Found.{found_answer};
 ghost use Rattle.vme_reading.specs.Outcomes.{scenario_limit};
 ghost use Rattle.vme_reading.specs.Steps.{IsNoPlan};
 ghost use Rattle.vme_reading.specs.declared.EngineFault.{EngineFault as EngineFaultValue};
@@ -17,9 +16,9 @@ ghost use Rattle.vme_program.specs.Statuses.{exit_code};
 
 use crate::checks::check_files;
 use crate::comparisons::report_comparison;
+use crate::drives::run_drive;
 use crate::faults::ProgramFault;
 use crate::files::{buffered, open, read_scenario};
-use crate::goals::test_goal;
 use crate::probes::run_probe;
 use crate::reporters::Reporter;
 use crate::sums::sum_files;
@@ -28,9 +27,8 @@ use std::io::Write;
 use std::process::ExitCode;
 use std::sync::Wait;
 use std::thread::Threads;
-use vme_command_line::{Choice, Job, VERSION, Work};
-use vme_engines::{drive, drive_drawn, drive_found, joined};
-use vme_goals::Goal;
+use vme_command_line::{Job, VERSION, Work};
+use vme_engines::joined;
 use vme_model::Version;
 use vme_moments::Slacks;
 use vme_order::{Form, OrderingFault, order};
@@ -52,27 +50,6 @@ pub(crate) fn answer_of<'a>(
 {
     match answer {
         Ok(status) => Ok(status),
-        Err(fault) => Err(ProgramFault::of_engine(name, fault)),
-    }
-}
-
-/// A search's answer, given the name of the scenario. It prints the seed that was found.
-fn answer_of_seeds<'a>(
-    rt: &HostRuntime,
-    name: &'a str,
-    found: Result<Option<u64>, EngineFault>,
-) -> Result<Status, ProgramFault<'a>>
-    ensures { result ≡ answer_named name.entry (found_answer found) }
-{
-    match found {
-        Ok(Some(seed)) => {
-            let _ = eprintln!(rt; "seed {seed}");
-            Ok(Status::Done)
-        }
-        Ok(None) => {
-            let _ = eprintln!(rt; "no seed");
-            Ok(Status::Limit)
-        }
         Err(fault) => Err(ProgramFault::of_engine(name, fault)),
     }
 }
@@ -357,112 +334,6 @@ fn run_order<'a, W: Write>(
         scenario,
         order(rt.alloc(), text, &mut input, slacks, form, out, reporter),
     )
-}
-
-/// Lets the drivers make edges in turn.
-#[inline(never)]
-fn run_in_turn<'a, W: Write>(
-    rt: &HostRuntime,
-    scenario: &'a str,
-    text: &[u8],
-    edges: u32,
-    version: Version,
-    out: &mut W,
-) -> Result<Status, ProgramFault<'a>>
-    ensures fault { IfErr result
-        (IsFaultOf (Job.OnScenario scenario.entry (Work.Drive edges version Choice.InTurn))) }
-    ensures done { IsDone (Job.OnScenario scenario.entry (Work.Drive edges version Choice.InTurn))
-        (W.contents out.old) (W.contents out.new) result }
-{
-    answer_of(scenario, drive(rt.alloc(), text, edges, out, version))
-}
-
-/// Draws edges at random from all that are open to the drivers, if nothing hinders the goal.
-#[inline(never)]
-fn run_drawn<'a, W: Write>(
-    rt: &HostRuntime,
-    scenario: &'a str,
-    text: &[u8],
-    edges: u32,
-    version: Version,
-    seed: u64,
-    until: Option<Goal>,
-    out: &mut W,
-) -> Result<Status, ProgramFault<'a>>
-    ensures fault { IfErr result (IsFaultOf (Job.OnScenario scenario.entry
-        (Work.Drive edges version (Choice.Drawn seed until)))) }
-    ensures done { IsDone (Job.OnScenario scenario.entry
-        (Work.Drive edges version (Choice.Drawn seed until)))
-        (W.contents out.old) (W.contents out.new) result }
-{
-    test_goal(rt, scenario, text, until)?;
-    answer_of(
-        scenario,
-        drive_drawn(rt.alloc(), text, edges, seed, until, out, version),
-    )
-}
-
-/// Draws edges by one seed after another, until the trace of one ends with the goal, if nothing
-/// hinders it.
-#[inline(never)]
-fn run_sought<'a, W: Write>(
-    rt: &HostRuntime,
-    scenario: &'a str,
-    text: &[u8],
-    edges: u32,
-    version: Version,
-    first: u64,
-    last: u64,
-    goal: Goal,
-    progress: bool,
-    out: &mut W,
-) -> Result<Status, ProgramFault<'a>>
-    requires { first ≤ last }
-    ensures fault { IfErr result (IsFaultOf (Job.OnScenario scenario.entry
-        (Work.Drive edges version (Choice.Sought first last goal progress)))) }
-    ensures done { IsDone (Job.OnScenario scenario.entry
-        (Work.Drive edges version (Choice.Sought first last goal progress)))
-        (W.contents out.old) (W.contents out.new) result }
-{
-    test_goal(rt, scenario, text, Some(goal))?;
-    let alloc = rt.alloc();
-    let reporter = &mut Reporter::new(rt, progress);
-    let found = drive_found(
-        alloc, text, edges, first, last, goal, out, version, reporter,
-    );
-    answer_of_seeds(rt, scenario, found)
-}
-
-/// Lets the drivers make edges, one after another.
-fn run_drive<'a, W: Write>(
-    rt: &HostRuntime,
-    scenario: &'a str,
-    text: &[u8],
-    edges: u32,
-    version: Version,
-    choice: Choice,
-    out: &mut W,
-) -> Result<Status, ProgramFault<'a>>
-    requires { IsWithinChoice choice }
-    ensures fault { IfErr result
-        (IsFaultOf (Job.OnScenario scenario.entry (Work.Drive edges version choice))) }
-    ensures done { IsDone (Job.OnScenario scenario.entry (Work.Drive edges version choice))
-        (W.contents out.old) (W.contents out.new) result }
-{
-    match choice {
-        Choice::InTurn => run_in_turn(rt, scenario, text, edges, version, out),
-        Choice::Drawn { seed, until } => {
-            run_drawn(rt, scenario, text, edges, version, seed, until, out)
-        }
-        Choice::Sought {
-            first,
-            last,
-            goal,
-            progress,
-        } => run_sought(
-            rt, scenario, text, edges, version, first, last, goal, progress, out,
-        ),
-    }
 }
 
 /// Lets each driver of a scenario make edges in a thread of its own. It may wait for other threads.

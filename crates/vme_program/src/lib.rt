@@ -10,6 +10,7 @@ mod arguments;
 mod checks;
 mod codes;
 mod comparisons;
+mod drives;
 mod escapes;
 mod faults;
 mod files;
