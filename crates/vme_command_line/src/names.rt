@@ -75,11 +75,7 @@ fn comparing_work<'a>(name: &str, operands: &ArgMatches<'a>) -> Result<Work<'a>,
 }
 
 /// The work for the name of a command that takes a scenario.
-fn work_of<'a>(
-    alloc: Global,
-    name: &str,
-    operands: &ArgMatches<'a>,
-) -> Result<Work<'a>, Unfit<'a>>
+fn work_of<'a>(alloc: Global, name: &str, operands: &ArgMatches<'a>) -> Result<Work<'a>, Unfit<'a>>
     ensures within { IfOk result IsWithinWork }
     ensures asked { IfOk result (AsksForWork name.now (rows_of (found_of operands.now))) }
     ensures unfit { IfErr result (IsUnfit name.now (rows_of (found_of operands.now))) }

@@ -102,8 +102,5 @@ pub(crate) fn run_drive<'a, W: Write>(
         (W.contents out.old) (W.contents out.new) result }
 {
     test_goal(rt, scenario, text, goal_of(choice))?;
-    answer_of(
-        scenario,
-        do_drive(rt, text, edges, version, choice, out),
-    )
+    answer_of(scenario, do_drive(rt, text, edges, version, choice, out))
 }

@@ -14,12 +14,7 @@ fn assert_job(rt: &(impl Abort + AllocGlobal), given: &[&str], wanted: Job) {
 }
 
 /// Asserts for which work on a scenario words ask.
-fn assert_work(
-    rt: &(impl Abort + AllocGlobal),
-    given: &[&str],
-    scenario: &str,
-    work: Work,
-) {
+fn assert_work(rt: &(impl Abort + AllocGlobal), given: &[&str], scenario: &str, work: Work) {
     assert_job(rt, given, Job::OnScenario { scenario, work });
 }
 
@@ -68,10 +63,12 @@ fn reads_a_capture(rt: HostRuntime) {
 fn reads_several_traces(rt: HostRuntime) {
     let given = ["summary", "board.toml", "a.vme", "--", "b.vme", "-c.vme"];
     match words(rt.alloc(), &given) {
-        Ok(Job::OnScenario {
-            scenario,
-            work: Work::Sums { traces },
-        }) => {
+        Ok(
+            Job::OnScenario {
+                scenario,
+                work: Work::Sums { traces },
+            },
+        ) => {
             assert!(rt; scenario == "board.toml");
             assert!(rt; traces.as_slice() == ["a.vme", "b.vme", "-c.vme"].as_slice());
         }
