@@ -78,8 +78,8 @@ Alone Ends = Shared (λ f. f) Ends
 
 -- what an engine does on the text of a scenario, to which it is lent in this way, and on a file
 abbrev pub OnFile :
-    {A : Type 0} → (List ℕ → Type 0 → (Plan → A → Type 0) → A → Type 0)
-    → (Streams → Plan → A → Type 0) → Known → Known → A → Type 0
+    {A B : Type 0} → (List ℕ → Type 0 → (Plan → A → Type 0) → B → Type 0)
+    → (Streams → Plan → A → Type 0) → Known → Known → B → Type 0
 OnFile Lends Runs old new answer = (text : List ℕ) × (from : Known) × (to : Known)
     × (let s = streams from to old new in
     Lends text (ReadNothing s × WroteNothing s) (Runs s) answer)
