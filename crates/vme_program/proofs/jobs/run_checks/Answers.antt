@@ -11,13 +11,13 @@ use Rattle.vme_program.proofs.jobs.run_checks.Goals as goal
 
 pub returns-in_err-test_plan-clause-fault : goal.returns-in_err-test_plan-clause-fault
 returns-in_err-test_plan-clause-fault g c =
-    let e = err_from_is_err_and c.from_residual-in_err-test_plan.result c.from_residual-in_err-test_plan.ensures.1 in
+    let e = err_from_is_err_and c.from_residual.result c.from_residual.ensures.1 in
     let no = c.in_err-test_plan.ensures.fault in
     rw (e.1, e.2, no.2) (plan_fault (OnScenario c.args.scenario (Checks c.args.traces)) c.args.text.now c.args.scenario no.0 refl no.1)
 
 pub returns-in_err-test_plan-clause-done : goal.returns-in_err-test_plan-clause-done
 returns-in_err-test_plan-clause-done g c =
-    let e = err_from_is_err_and c.from_residual-in_err-test_plan.result c.from_residual-in_err-test_plan.ensures.1 in
+    let e = err_from_is_err_and c.from_residual.result c.from_residual.ensures.1 in
     let no = c.in_err-test_plan.ensures.fault in
     rw (e.1, e.2, no.2)
     (unplanned c.args.text.now (ChecksFiles (texts_of c.args.traces.items) (g.W.Write.contents c.args.out.now) (g.W.Write.contents c.args.out.now)) (g.W.Write.contents c.args.out.now) (g.W.Write.contents c.args.out.now) (Stops (OnScenario c.args.scenario (Checks c.args.traces)))
