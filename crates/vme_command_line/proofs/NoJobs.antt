@@ -3,7 +3,7 @@ use Rattle.std.proofs.Common.{◌≡◌, ◌≢◌, Bool, true, false, Result, O
 use Rattle.clap.specs.Words.{Row, Text}
 use Rattle.vme_command_line.specs.Asked.{IsIdle, IsNoJob}
 use Rattle.vme_command_line.specs.Unfits.{IsUnfit}
-use Rattle.vme_command_line.specs.declared.Job.{Job}
+use Rattle.vme_command_line.specs.declared.Choice.{Choice}
 use Rattle.vme_command_line.specs.declared.Unfit.{Unfit}
 use Rattle.vme_command_line.specs.declared.Unfit.TheVariants.{Missing, NoMemory, Window, Beside, Event, Seedless, Aimless, Driver, Seeded, Seeds, Idle, TwoEdges, Rule, Slack}
 
@@ -28,17 +28,17 @@ pub no_job : (met : Option (Text × List Row)) (unfit : Unfit) → unfit ≢ Mis
 no_job None unfit other room is = is other
 no_job (Some m) unfit other room is = one m.0 m.1 unfit other room (is other)
 
--- a job whose progress is not to be reported
-pub if_silent : (progress : Bool) (r : Result Job Unfit) (job : Job) (Asks : Job → Type 0)
-    → (progress ≡ false → r ≡ Ok job) → (progress ≡ true → r ≡ Err Idle)
-    → (progress ≡ false → Asks job) → IfOk r Asks
-if_silent true r job Asks silent idle asks = rw (idle refl) tt
-if_silent false r job Asks silent idle asks = rw (silent refl) (asks refl)
+-- a choice of which no progress is to be reported
+pub if_silent : (progress : Bool) (r : Result Choice Unfit) (choice : Choice) (Is : Choice → Type 0)
+    → (progress ≡ false → r ≡ Ok choice) → (progress ≡ true → r ≡ Err Idle)
+    → (progress ≡ false → Is choice) → IfOk r Is
+if_silent true r choice Is silent idle is = rw (idle refl) tt
+if_silent false r choice Is silent idle is = rw (silent refl) (is refl)
 
 -- a drive whose progress is to be reported, though one trace alone is made
-pub if_idle : (progress : Bool) (r : Result Job Unfit) (job : Job) (rows : List Row)
-    → (progress ≡ false → r ≡ Ok job) → (progress ≡ true → r ≡ Err Idle)
+pub if_idle : (progress : Bool) (r : Result Choice Unfit) (choice : Choice) (rows : List Row)
+    → (progress ≡ false → r ≡ Ok choice) → (progress ≡ true → r ≡ Err Idle)
     → (progress ≡ true → IsIdle rows) → IfErr r (IsUnfit (codes "drive") rows)
-if_idle true r job rows silent idle is =
+if_idle true r choice rows silent idle is =
     rw (idle refl) (inr (inl (refl, inl (inr (is refl)))))
-if_idle false r job rows silent idle is = rw (silent refl) tt
+if_idle false r choice rows silent idle is = rw (silent refl) tt

@@ -12,8 +12,14 @@ use Rattle.vme_goals.specs.declared.goals.Goal.{Goal}
 use Rattle.vme_command_line.specs.Aims.{IsNameOf, NamesNobody}
 use Rattle.vme_command_line.specs.Alone.{aim_named}
 use Rattle.vme_command_line.specs.Commands.{commands}
+use Rattle.vme_command_line.specs.declared.Choice.{Choice}
+use Rattle.vme_command_line.specs.declared.Choice.TheVariants.{InTurn, Drawn, Sought}
 use Rattle.vme_command_line.specs.declared.Job.{Job}
-use Rattle.vme_command_line.specs.declared.Job.TheVariants.{Joined, OwnVersion, Replay, Check, Checks, Explain, Shrink, Rules, State, Show, Cycles, Summary, Sums, Races, Walk, OtherOrder, Same, Order, Probe, Drive, Draw, Search, Run}
+use Rattle.vme_command_line.specs.declared.Job.TheVariants.{Joined, OwnVersion, Rules, OnScenario}
+use Rattle.vme_command_line.specs.declared.Task.{Task}
+use Rattle.vme_command_line.specs.declared.Task.TheVariants.{Replay, Check, Explain, Shrink, State, Show, Cycles, Summary, Races, Walk}
+use Rattle.vme_command_line.specs.declared.Work.{Work}
+use Rattle.vme_command_line.specs.declared.Work.TheVariants.{OnTrace, Checks, Sums, OtherOrder, Same, Order, Probe, Drive, Run}
 use Rattle.vme_command_line.specs.Limits.{IsNoWindow}
 use Rattle.vme_moments.specs.declared.slacks.Slacks.{Slacks}
 use Rattle.vme_rulebook.specs.declared.Entry.{Entry}
@@ -29,9 +35,9 @@ texts_of words = map (λ word. word.now) words
 abbrev pub IsFile : Text → List Row → Text → Type 0
 IsFile name rows file = first_of name rows ≡ Some file
 
--- one trace is given, which is this file
-abbrev pub IsOne : List Row → Text → Type 0
-IsOne rows file = all_of (codes "TRACE") rows ≡ Some (file ∷ [])
+-- one trace is given
+abbrev pub IsOneTrace : List Row → Type 0
+IsOneTrace rows = (file : Text) × (all_of (codes "TRACE") rows ≡ Some (file ∷ []))
 
 -- two traces or more are given, which are these files in this order
 abbrev pub AreSeveral : List Row → List (Bor Text) → Type 0
@@ -130,69 +136,65 @@ abbrev pub AreTheSlacks : List Row → Slacks → Type 0
 AreTheSlacks rows x = ((first_of (codes "slack") rows ≡ None) × AreAll 0 x)
     ⊎ ((named : Text) × (first_of (codes "slack") rows ≡ Some named) × AreSlacks named x)
 
+-- a command of this name, with these operands, is this task with one trace
+abbrev pub AsksForTask : Text → List Row → Task → Type 0
+AsksForTask name rows (Replay full) = (name ≡ codes "replay") × IsFlag (codes "full") rows full
+AsksForTask name rows Check = (name ≡ codes "check") × IsOneTrace rows
+AsksForTask name rows (Explain edge) =
+    (name ≡ codes "explain") × (spelled (codes "edge") rows ≡ edge)
+AsksForTask name rows (Shrink edge progress) =
+    (name ≡ codes "shrink") × (spelled (codes "edge") rows ≡ edge) × IsProgress rows progress
+AsksForTask name rows (State after) = (name ≡ codes "state") × (spelled (codes "after") rows ≡ after)
+AsksForTask name rows (Show from to color) = (name ≡ codes "show")
+    × (from ≡ first_of_window rows) × (to ≡ last_of_window rows)
+    × IsFlag (codes "color") rows color
+AsksForTask name rows Cycles = name ≡ codes "cycles"
+AsksForTask name rows Summary = (name ≡ codes "summary") × IsOneTrace rows
+AsksForTask name rows Races = (name ≡ codes "races")
+    × (spelled (codes "edge") rows ≡ None) × (spelled (codes "other") rows ≡ None)
+AsksForTask name rows (Walk edge) = (name ≡ codes "races")
+    × (spelled (codes "edge") rows ≡ Some edge) × (spelled (codes "other") rows ≡ None)
+
+-- the options of `drive`, but for `--edges`, choose the edges in this way
+abbrev pub IsChoice : List Row → Version → Choice → Type 0
+IsChoice rows version InTurn =
+    (spelled (codes "seed") rows ≡ None) × (first_of (codes "seeds") rows ≡ None)
+    × IsGoal rows version None × IsProgress rows false
+IsChoice rows version (Drawn seed until) =
+    (spelled (codes "seed") rows ≡ Some seed) × (first_of (codes "seeds") rows ≡ None)
+    × IsGoal rows version until × IsProgress rows false
+IsChoice rows version (Sought first last goal progress) =
+    (spelled (codes "seed") rows ≡ None) × AreTried rows first last
+    × IsGoal rows version (Some goal) × IsProgress rows progress
+
+-- a command of this name, with these operands, is this work on a scenario
+abbrev pub AsksForWork : Text → List Row → Work → Type 0
+AsksForWork name rows (OnTrace task trace) =
+    IsFile (codes "TRACE") rows trace.now × AsksForTask name rows task
+AsksForWork name rows (Checks traces) = (name ≡ codes "check") × AreSeveral rows traces.items
+AsksForWork name rows (Sums traces) = (name ≡ codes "summary") × AreSeveral rows traces.items
+AsksForWork name rows (OtherOrder trace edge) =
+    (name ≡ codes "races") × IsFile (codes "TRACE") rows trace.now
+    × (spelled (codes "edge") rows ≡ None) × (spelled (codes "other") rows ≡ Some edge)
+AsksForWork name rows (Same trace other) = (name ≡ codes "same")
+    × IsFile (codes "TRACE") rows trace.now × IsFile (codes "OTHER") rows other.now
+AsksForWork name rows (Order moments slacks places progress) =
+    (name ≡ codes "order") × IsFile (codes "MOMENTS") rows moments.now
+    × AreTheSlacks rows slacks × IsFlag (codes "where") rows places × IsProgress rows progress
+AsksForWork name rows (Probe capture) =
+    (name ≡ codes "probe") × IsFile (codes "CAPTURE") rows capture.now
+AsksForWork name rows (Drive edges version choice) =
+    (name ≡ codes "drive") × AreOptions rows edges version × IsChoice rows version choice
+AsksForWork name rows (Run edges turns version) = (name ≡ codes "run")
+    × AreOptions rows edges version × (spelled (codes "turns") rows ≡ Some turns)
+
 -- a command of this name, with these operands, is this job
 abbrev pub AsksFor : Text → List Row → Job → Type 0
 AsksFor name rows Joined = ⊥
 AsksFor name rows OwnVersion = ⊥
-AsksFor name rows (Replay scenario trace full) = (name ≡ codes "replay")
-    × IsFile (codes "SCENARIO") rows scenario.now × IsFile (codes "TRACE") rows trace.now
-    × IsFlag (codes "full") rows full
-AsksFor name rows (Check scenario trace) = (name ≡ codes "check")
-    × IsFile (codes "SCENARIO") rows scenario.now × IsOne rows trace.now
-AsksFor name rows (Checks scenario traces) = (name ≡ codes "check")
-    × IsFile (codes "SCENARIO") rows scenario.now × AreSeveral rows traces.items
-AsksFor name rows (Explain scenario trace edge) = (name ≡ codes "explain")
-    × IsFile (codes "SCENARIO") rows scenario.now × IsFile (codes "TRACE") rows trace.now
-    × (spelled (codes "edge") rows ≡ edge)
-AsksFor name rows (Shrink scenario trace edge progress) = (name ≡ codes "shrink")
-    × IsFile (codes "SCENARIO") rows scenario.now × IsFile (codes "TRACE") rows trace.now
-    × (spelled (codes "edge") rows ≡ edge) × IsProgress rows progress
 AsksFor name rows (Rules entry) = (name ≡ codes "rule") × IsEntry rows entry
-AsksFor name rows (State scenario trace after) = (name ≡ codes "state")
-    × IsFile (codes "SCENARIO") rows scenario.now × IsFile (codes "TRACE") rows trace.now
-    × (spelled (codes "after") rows ≡ after)
-AsksFor name rows (Show scenario trace from to color) = (name ≡ codes "show")
-    × IsFile (codes "SCENARIO") rows scenario.now × IsFile (codes "TRACE") rows trace.now
-    × (from ≡ first_of_window rows) × (to ≡ last_of_window rows)
-    × IsFlag (codes "color") rows color
-AsksFor name rows (Cycles scenario trace) = (name ≡ codes "cycles")
-    × IsFile (codes "SCENARIO") rows scenario.now × IsFile (codes "TRACE") rows trace.now
-AsksFor name rows (Summary scenario trace) = (name ≡ codes "summary")
-    × IsFile (codes "SCENARIO") rows scenario.now × IsOne rows trace.now
-AsksFor name rows (Sums scenario traces) = (name ≡ codes "summary")
-    × IsFile (codes "SCENARIO") rows scenario.now × AreSeveral rows traces.items
-AsksFor name rows (Races scenario trace) = (name ≡ codes "races")
-    × IsFile (codes "SCENARIO") rows scenario.now × IsFile (codes "TRACE") rows trace.now
-    × (spelled (codes "edge") rows ≡ None) × (spelled (codes "other") rows ≡ None)
-AsksFor name rows (Walk scenario trace edge) = (name ≡ codes "races")
-    × IsFile (codes "SCENARIO") rows scenario.now × IsFile (codes "TRACE") rows trace.now
-    × (spelled (codes "edge") rows ≡ Some edge) × (spelled (codes "other") rows ≡ None)
-AsksFor name rows (OtherOrder scenario trace edge) = (name ≡ codes "races")
-    × IsFile (codes "SCENARIO") rows scenario.now × IsFile (codes "TRACE") rows trace.now
-    × (spelled (codes "edge") rows ≡ None) × (spelled (codes "other") rows ≡ Some edge)
-AsksFor name rows (Same scenario trace other) = (name ≡ codes "same")
-    × IsFile (codes "SCENARIO") rows scenario.now × IsFile (codes "TRACE") rows trace.now
-    × IsFile (codes "OTHER") rows other.now
-AsksFor name rows (Order scenario moments slacks places progress) = (name ≡ codes "order")
-    × IsFile (codes "SCENARIO") rows scenario.now × IsFile (codes "MOMENTS") rows moments.now
-    × AreTheSlacks rows slacks × IsFlag (codes "where") rows places × IsProgress rows progress
-AsksFor name rows (Probe scenario capture) = (name ≡ codes "probe")
-    × IsFile (codes "SCENARIO") rows scenario.now × IsFile (codes "CAPTURE") rows capture.now
-AsksFor name rows (Drive scenario edges version) = (name ≡ codes "drive")
-    × IsFile (codes "SCENARIO") rows scenario.now × AreOptions rows edges version
-    × (spelled (codes "seed") rows ≡ None) × (first_of (codes "seeds") rows ≡ None)
-    × IsGoal rows version None × IsProgress rows false
-AsksFor name rows (Draw scenario edges seed until version) = (name ≡ codes "drive")
-    × IsFile (codes "SCENARIO") rows scenario.now × AreOptions rows edges version
-    × (spelled (codes "seed") rows ≡ Some seed) × (first_of (codes "seeds") rows ≡ None)
-    × IsGoal rows version until × IsProgress rows false
-AsksFor name rows (Search scenario edges first last goal version progress) = (name ≡ codes "drive")
-    × IsFile (codes "SCENARIO") rows scenario.now × AreOptions rows edges version
-    × (spelled (codes "seed") rows ≡ None) × AreTried rows first last
-    × IsGoal rows version (Some goal) × IsProgress rows progress
-AsksFor name rows (Run scenario edges turns version) = (name ≡ codes "run")
-    × IsFile (codes "SCENARIO") rows scenario.now × AreOptions rows edges version
-    × (spelled (codes "turns") rows ≡ Some turns)
+AsksFor name rows (OnScenario scenario work) =
+    IsFile (codes "SCENARIO") rows scenario.now × AsksForWork name rows work
 
 -- the command line reaches the option that asks for the program's own version
 abbrev pub AskForVersion : List Text → Type 0

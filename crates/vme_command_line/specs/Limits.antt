@@ -1,8 +1,14 @@
 -- Jobs whose numbers lie within the limits of the program.
 use Rattle.std.specs.Prelude.{◌≤◌, ◌<◌, ◌+◌, ◌⊎◌, ℕ, IfSome}
 use Rattle.vme_model.specs.Report.{trace_limit}
+use Rattle.vme_command_line.specs.declared.Choice.{Choice}
+use Rattle.vme_command_line.specs.declared.Choice.TheVariants.{Sought}
 use Rattle.vme_command_line.specs.declared.Job.{Job}
-use Rattle.vme_command_line.specs.declared.Job.TheVariants.{Joined, OwnVersion, Replay, Check, Checks, Explain, Shrink, Rules, State, Show, Cycles, Summary, Sums, Races, Walk, OtherOrder, Same, Order, Probe, Drive, Draw, Search, Run}
+use Rattle.vme_command_line.specs.declared.Job.TheVariants.{OnScenario}
+use Rattle.vme_command_line.specs.declared.Task.{Task}
+use Rattle.vme_command_line.specs.declared.Task.TheVariants.{Explain, Shrink, Show, Walk}
+use Rattle.vme_command_line.specs.declared.Work.{Work}
+use Rattle.vme_command_line.specs.declared.Work.TheVariants.{OnTrace, OtherOrder, Drive, Run}
 
 abbrev pub most_turns : ℕ
 most_turns = 1000000
@@ -14,32 +20,30 @@ IsWindow from to = (from ≤ to) × (to ≤ from + 199)
 abbrev pub IsNoWindow : ℕ → ℕ → Type 0
 IsNoWindow from to = (to < from) ⊎ (from + 199 < to)
 
+-- the edges of a trace are counted from 1
+abbrev pub IsWithinTask : Task → Type 0
+IsWithinTask (Explain edge) = IfSome edge (λ n. 1 ≤ n)
+IsWithinTask (Shrink edge progress) = IfSome edge (λ n. 1 ≤ n)
+IsWithinTask (Show from to color) = (1 ≤ from) × IsWindow from to
+IsWithinTask (Walk edge) = 1 ≤ edge
+IsWithinTask task = Unit {0}
+
+-- the last seed is not below the first
+abbrev pub IsWithinChoice : Choice → Type 0
+IsWithinChoice (Sought first last goal progress) = first ≤ last
+IsWithinChoice choice = Unit {0}
+
 -- `drive` and `run` make at least one edge and no more than a trace may have, and `run` gives each
--- driver 1 to 1,000,000 turns; the edges of a trace are counted from 1, and the last seed is not
--- below the first
-abbrev pub IsWithin : Job → Type 0
-IsWithin (Drive scenario edges version) = (1 ≤ edges) × (edges ≤ trace_limit)
-IsWithin (Draw scenario edges seed until version) = (1 ≤ edges) × (edges ≤ trace_limit)
-IsWithin (Search scenario edges first last goal version progress) =
-    (1 ≤ edges) × (edges ≤ trace_limit) × (first ≤ last)
-IsWithin Joined = Unit {0}
-IsWithin OwnVersion = Unit {0}
-IsWithin (Replay scenario trace full) = Unit {0}
-IsWithin (Check scenario trace) = Unit {0}
-IsWithin (Checks scenario traces) = Unit {0}
-IsWithin (Explain scenario trace edge) = IfSome edge (λ n. 1 ≤ n)
-IsWithin (Shrink scenario trace edge progress) = IfSome edge (λ n. 1 ≤ n)
-IsWithin (Rules entry) = Unit {0}
-IsWithin (State scenario trace after) = Unit {0}
-IsWithin (Show scenario trace from to color) = (1 ≤ from) × IsWindow from to
-IsWithin (Cycles scenario trace) = Unit {0}
-IsWithin (Summary scenario trace) = Unit {0}
-IsWithin (Sums scenario traces) = Unit {0}
-IsWithin (Races scenario trace) = Unit {0}
-IsWithin (Walk scenario trace edge) = 1 ≤ edge
-IsWithin (OtherOrder scenario trace edge) = 1 ≤ edge
-IsWithin (Same scenario trace other) = Unit {0}
-IsWithin (Order scenario moments slacks places progress) = Unit {0}
-IsWithin (Probe scenario capture) = Unit {0}
-IsWithin (Run scenario edges turns version) =
+-- driver 1 to 1,000,000 turns
+abbrev pub IsWithinWork : Work → Type 0
+IsWithinWork (OnTrace task trace) = IsWithinTask task
+IsWithinWork (OtherOrder trace edge) = 1 ≤ edge
+IsWithinWork (Drive edges version choice) =
+    (1 ≤ edges) × (edges ≤ trace_limit) × IsWithinChoice choice
+IsWithinWork (Run edges turns version) =
     (1 ≤ edges) × (edges ≤ trace_limit) × (1 ≤ turns) × (turns ≤ most_turns)
+IsWithinWork work = Unit {0}
+
+abbrev pub IsWithin : Job → Type 0
+IsWithin (OnScenario scenario work) = IsWithinWork work
+IsWithin job = Unit {0}

@@ -4,9 +4,9 @@
 
 ghost use Rattle.std.specs.Prelude.{◌≡◌, ◌≢◌, ◌≤◌, ◌↔◌, ◌⊎◌, ℕ, [], ◌∷◌, IfErr, IfOk, IfSome, IsSomeAnd, MatchOption, Err, Ok, Some, codes, false, length, option_map, true};
 ghost use Rattle.clap.specs.Words.{FailsBy, IsAmong, Text, all_of, fault_of, first_of as first_text, found_of, kind_of, rows_of, subcommand_of, subcommand_rows_of};
-ghost use Rattle.vme_command_line.specs.Asked.{AreSeeds, Ask, AskForNoJob, AsksFor, AreTheSlacks, IsFile, IsFlag, IsNoSlack, NamesNoSeeds, first_shown, last_shown, spelled, texts_of, version_number};
+ghost use Rattle.vme_command_line.specs.Asked.{AreSeeds, Ask, AskForNoJob, AsksFor, AsksForTask, AsksForWork, AreTheSlacks, IsChoice, IsFile, IsFlag, IsNoSlack, NamesNoSeeds, first_shown, last_shown, spelled, texts_of, version_number};
 ghost use Rattle.vme_command_line.specs.Commands.{commands as commands_said};
-ghost use Rattle.vme_command_line.specs.Limits.{IsWithin};
+ghost use Rattle.vme_command_line.specs.Limits.{IsWithin, IsWithinChoice, IsWithinTask, IsWithinWork};
 ghost use Rattle.vme_command_line.specs.Numbers.{IsSeed};
 ghost use Rattle.vme_command_line.specs.Traces.{AreTraces};
 ghost use Rattle.vme_command_line.specs.Unfits.{IsUnfit};
@@ -63,119 +63,44 @@ pub enum Job<'a> {
     Joined,
     /// Print the program's own version, [`VERSION`].
     OwnVersion,
-    /// Replay a trace.
-    Replay {
-        /// The file of the scenario.
-        scenario: &'a str,
-        /// The file of the trace.
-        trace: &'a str,
-        /// Whether each edge is printed beside its verdict.
-        full: bool,
-    },
-    /// Check a trace.
-    Check {
-        /// The file of the scenario.
-        scenario: &'a str,
-        /// The file of the trace.
-        trace: &'a str,
-    },
-    /// Check several traces.
-    Checks {
-        /// The file of the scenario.
-        scenario: &'a str,
-        /// The files of the traces, two or more.
-        traces: Vec<&'a str>,
-    },
-    /// Explain why an edge of a trace has its verdict.
-    Explain {
-        /// The file of the scenario.
-        scenario: &'a str,
-        /// The file of the trace.
-        trace: &'a str,
-        /// The edge, counted from 1. If it is not given, it is the first edge that is refused.
-        edge: Option<u64>,
-    },
-    /// Find a short trace in which an edge has the same answer.
-    Shrink {
-        /// The file of the scenario.
-        scenario: &'a str,
-        /// The file of the trace.
-        trace: &'a str,
-        /// The edge, counted from 1. If it is not given, it is the first edge that is refused.
-        edge: Option<u64>,
-        /// Whether it is reported how far the search came.
-        progress: bool,
-    },
     /// Print the rules, or explain a code.
     Rules {
         /// The rule or other code that is explained. Without it, all rules are printed, a sentence
         /// each.
         entry: Option<Entry>,
     },
-    /// Report where the bus stands in a trace.
-    State {
+    /// Do something on the backplane of a scenario.
+    OnScenario {
         /// The file of the scenario.
         scenario: &'a str,
-        /// The file of the trace.
-        trace: &'a str,
-        /// After how many edges; after all of them if it is not given.
-        after: Option<u64>,
+        /// What is done.
+        work: Work<'a>,
     },
-    /// Draw a picture of some edges of a trace.
-    Show {
-        /// The file of the scenario.
-        scenario: &'a str,
-        /// The file of the trace.
-        trace: &'a str,
-        /// The first edge of the picture, counted from 1.
-        from: u64,
-        /// The last edge of the picture: not before the first one, and less than [`MOST_SHOWN`]
-        /// after it.
-        to: u64,
-        /// Whether refused edges and deliveries are coloured.
-        color: bool,
-    },
-    /// Print the cycles, tenures and refused edges of a trace.
-    Cycles {
-        /// The file of the scenario.
-        scenario: &'a str,
+}
+
+/// What is done on the backplane of a scenario. Files have the names that the user gave.
+#[derive(PartialEq, Eq, Debug, Drop)]
+pub enum Work<'a> {
+    /// Do a task with one trace.
+    OnTrace {
+        /// The task.
+        task: Task,
         /// The file of the trace.
         trace: &'a str,
     },
-    /// Count what a trace exercised.
-    Summary {
-        /// The file of the scenario.
-        scenario: &'a str,
-        /// The file of the trace.
-        trace: &'a str,
-    },
-    /// Add up what several traces exercised.
-    Sums {
-        /// The file of the scenario.
-        scenario: &'a str,
+    /// Check several traces.
+    Checks {
         /// The files of the traces, two or more.
         traces: Vec<&'a str>,
     },
-    /// Print which edges of a trace race.
-    Races {
-        /// The file of the scenario.
-        scenario: &'a str,
-        /// The file of the trace.
-        trace: &'a str,
+    /// Add up what several traces exercised.
+    Sums {
+        /// The files of the traces, two or more.
+        traces: Vec<&'a str>,
     },
-    /// Print how far one edge of a trace goes back, and what stops it.
-    Walk {
-        /// The file of the scenario.
-        scenario: &'a str,
-        /// The file of the trace.
-        trace: &'a str,
-        /// The edge, counted from 1.
-        edge: u64,
-    },
-    /// Print the trace of the other order of a race.
+    /// Print the trace of the other order of a race. It is no [`Task`], since it has a fault of its
+    /// own: the edge may race with none.
     OtherOrder {
-        /// The file of the scenario.
-        scenario: &'a str,
         /// The file of the trace.
         trace: &'a str,
         /// The edge that races, counted from 1.
@@ -183,8 +108,6 @@ pub enum Job<'a> {
     },
     /// Say whether two traces differ only in orders that do not matter.
     Same {
-        /// The file of the scenario.
-        scenario: &'a str,
         /// The file of the one trace.
         trace: &'a str,
         /// The file of the other trace.
@@ -192,8 +115,6 @@ pub enum Job<'a> {
     },
     /// Find a legal order of edges that were seen at moments.
     Order {
-        /// The file of the boards.
-        scenario: &'a str,
         /// The file of the edges with their moments.
         moments: &'a str,
         /// By how many moments at most the edges of each driver were seen late.
@@ -206,60 +127,101 @@ pub enum Job<'a> {
     /// Say whether a bus that keeps the rules can show what an analyser saw, and who may have driven
     /// it.
     Probe {
-        /// The file of the boards.
-        scenario: &'a str,
         /// The file of the capture.
         capture: &'a str,
     },
-    /// Let the drivers make edges in turn.
+    /// Let the drivers make edges, one after another.
     Drive {
-        /// The file of the scenario.
-        scenario: &'a str,
         /// The most edges to make, 1 to [`MOST_EDGES`].
         edges: u32,
         /// The version of the rules.
         version: Version,
-    },
-    /// Draw edges at random from all that are open to the drivers.
-    Draw {
-        /// The file of the scenario.
-        scenario: &'a str,
-        /// The most edges to make, 1 to [`MOST_EDGES`].
-        edges: u32,
-        /// The seed by which the edges are drawn.
-        seed: u64,
-        /// The goal with which the trace is to end, if there is one.
-        until: Option<Goal>,
-        /// The version of the rules.
-        version: Version,
-    },
-    /// Draw edges by one seed after another, until the trace of one ends with the goal.
-    Search {
-        /// The file of the scenario.
-        scenario: &'a str,
-        /// The most edges of a trace, 1 to [`MOST_EDGES`].
-        edges: u32,
-        /// The seed that is tried first.
-        first: u64,
-        /// The seed that is tried last, not below the first.
-        last: u64,
-        /// The goal with which the trace is to end.
-        goal: Goal,
-        /// The version of the rules.
-        version: Version,
-        /// Whether the seeds are reported while they are tried.
-        progress: bool,
+        /// How the edges are chosen.
+        choice: Choice,
     },
     /// Let each driver make edges in a thread of its own.
     Run {
-        /// The file of the scenario.
-        scenario: &'a str,
         /// The most edges to make, 1 to [`MOST_EDGES`].
         edges: u32,
         /// The turns of each driver, 1 to [`MOST_TURNS`].
         turns: u32,
         /// The version of the rules.
         version: Version,
+    },
+}
+
+/// What is done with one trace.
+#[derive(Clone, Copy, PartialEq, Eq, Debug)]
+pub enum Task {
+    /// Replay it.
+    Replay {
+        /// Whether each edge is printed beside its verdict.
+        full: bool,
+    },
+    /// Check it.
+    Check,
+    /// Explain why one of its edges has its verdict.
+    Explain {
+        /// The edge, counted from 1. If it is not given, it is the first edge that is refused.
+        edge: Option<u64>,
+    },
+    /// Find a short trace in which one of its edges has the same answer.
+    Shrink {
+        /// The edge, counted from 1. If it is not given, it is the first edge that is refused.
+        edge: Option<u64>,
+        /// Whether it is reported how far the search came.
+        progress: bool,
+    },
+    /// Report where the bus stands in it.
+    State {
+        /// After how many edges; after all of them if it is not given.
+        after: Option<u64>,
+    },
+    /// Draw a picture of some of its edges.
+    Show {
+        /// The first edge of the picture, counted from 1.
+        from: u64,
+        /// The last edge of the picture: not before the first one, and less than [`MOST_SHOWN`]
+        /// after it.
+        to: u64,
+        /// Whether refused edges and deliveries are coloured.
+        color: bool,
+    },
+    /// Print its cycles, tenures and refused edges.
+    Cycles,
+    /// Count what it exercised.
+    Summary,
+    /// Print which of its edges race.
+    Races,
+    /// Print how far one of its edges goes back, and what stops it.
+    Walk {
+        /// The edge, counted from 1.
+        edge: u64,
+    },
+}
+
+/// How the edges of a drive are chosen.
+#[derive(Clone, Copy, PartialEq, Eq, Debug)]
+pub enum Choice {
+    /// The drivers make edges in turn.
+    InTurn,
+    /// Edges are drawn at random from all that are open to the drivers.
+    Drawn {
+        /// The seed by which they are drawn.
+        seed: u64,
+        /// The goal with which the trace is to end, if there is one.
+        until: Option<Goal>,
+    },
+    /// Edges are drawn by one seed after another, until the trace of one ends with the goal.
+    Sought {
+        /// The seed that is tried first.
+        first: u64,
+        /// The seed that is tried last, not below the first.
+        last: u64,
+        /// The goal with which the trace is to end.
+        goal: Goal,
+        /// Whether the seeds are reported while they are tried.
+        progress: bool,
     },
 }
 
@@ -394,80 +356,69 @@ fn traces_of<'a>(alloc: Global, operands: &ArgMatches<'a>) -> Result<Traces<'a>,
     }
 }
 
-/// A replay of the scenario's trace, with its other operands.
-fn replay_of<'a>(scenario: &'a str, operands: &ArgMatches<'a>) -> Result<Job<'a>, Unfit<'a>>
-    ensures within { IfOk result IsWithin }
-    ensures asked { IsFile (codes "SCENARIO") (rows_of (found_of operands.now)) scenario.now
-        → IfOk result (AsksFor (codes "replay") (rows_of (found_of operands.now))) }
-    ensures unfit { IfErr result (IsUnfit (codes "replay") (rows_of (found_of operands.now))) }
+/// A replay, with its operands.
+fn replay_of(operands: &ArgMatches<'_>) -> Task
+    ensures within { IsWithinTask result }
+    ensures asked { AsksForTask (codes "replay") (rows_of (found_of operands.now)) result }
 {
-    Ok(Job::Replay {
-        scenario,
-        trace: file_of(operands, "TRACE")?,
+    Task::Replay {
         full: is_flagged(operands, "full"),
-    })
+    }
 }
 
-/// A check of one trace of the scenario, or of several.
-fn check_of<'a>(
-    alloc: Global,
-    scenario: &'a str,
-    operands: &ArgMatches<'a>,
-) -> Result<Job<'a>, Unfit<'a>>
-    ensures within { IfOk result IsWithin }
-    ensures asked { IsFile (codes "SCENARIO") (rows_of (found_of operands.now)) scenario.now
-        → IfOk result (AsksFor (codes "check") (rows_of (found_of operands.now))) }
+/// A check of one trace, or of several.
+fn check_of<'a>(alloc: Global, operands: &ArgMatches<'a>) -> Result<Work<'a>, Unfit<'a>>
+    ensures within { IfOk result IsWithinWork }
+    ensures asked { IfOk result
+        (AsksForWork (codes "check") (rows_of (found_of operands.now))) }
     ensures unfit { IfErr result (IsUnfit (codes "check") (rows_of (found_of operands.now))) }
 {
     match traces_of(alloc, operands)? {
-        Traces::One { trace } => Ok(Job::Check { scenario, trace }),
-        Traces::Several { traces } => Ok(Job::Checks { scenario, traces }),
+        Traces::One { trace } => Ok(Work::OnTrace {
+            task: Task::Check,
+            trace,
+        }),
+        Traces::Several { traces } => Ok(Work::Checks { traces }),
     }
 }
 
-/// A summary of one trace of the scenario, or the sums over several traces.
-fn summary_of<'a>(
-    alloc: Global,
-    scenario: &'a str,
-    operands: &ArgMatches<'a>,
-) -> Result<Job<'a>, Unfit<'a>>
-    ensures within { IfOk result IsWithin }
-    ensures asked { IsFile (codes "SCENARIO") (rows_of (found_of operands.now)) scenario.now
-        → IfOk result (AsksFor (codes "summary") (rows_of (found_of operands.now))) }
+/// A summary of one trace, or the sums over several.
+fn summary_of<'a>(alloc: Global, operands: &ArgMatches<'a>) -> Result<Work<'a>, Unfit<'a>>
+    ensures within { IfOk result IsWithinWork }
+    ensures asked { IfOk result
+        (AsksForWork (codes "summary") (rows_of (found_of operands.now))) }
     ensures unfit { IfErr result (IsUnfit (codes "summary") (rows_of (found_of operands.now))) }
 {
     match traces_of(alloc, operands)? {
-        Traces::One { trace } => Ok(Job::Summary { scenario, trace }),
-        Traces::Several { traces } => Ok(Job::Sums { scenario, traces }),
+        Traces::One { trace } => Ok(Work::OnTrace {
+            task: Task::Summary,
+            trace,
+        }),
+        Traces::Several { traces } => Ok(Work::Sums { traces }),
     }
 }
 
-/// An explanation on the scenario, with its other operands.
-fn explain_of<'a>(scenario: &'a str, operands: &ArgMatches<'a>) -> Result<Job<'a>, Unfit<'a>>
-    ensures within { IfOk result IsWithin }
-    ensures asked { IsFile (codes "SCENARIO") (rows_of (found_of operands.now)) scenario.now
-        → IfOk result (AsksFor (codes "explain") (rows_of (found_of operands.now))) }
+/// An explanation, with its operands.
+fn explain_of<'a>(operands: &ArgMatches<'a>) -> Result<Task, Unfit<'a>>
+    ensures within { IfOk result IsWithinTask }
+    ensures asked { IfOk result
+        (AsksForTask (codes "explain") (rows_of (found_of operands.now))) }
     ensures unfit { IfErr result (IsUnfit (codes "explain") (rows_of (found_of operands.now))) }
 {
-    Ok(Job::Explain {
-        scenario,
-        trace: file_of(operands, "TRACE")?,
+    Ok(Task::Explain {
         edge: whole_of(operands, "edge", 1)?,
     })
 }
 
-/// A shorter trace for the scenario, with its other operands.
-fn shrink_of<'a>(scenario: &'a str, operands: &ArgMatches<'a>) -> Result<Job<'a>, Unfit<'a>>
-    ensures within { IfOk result IsWithin }
-    ensures asked { IsFile (codes "SCENARIO") (rows_of (found_of operands.now)) scenario.now
-        → IfOk result (AsksFor (codes "shrink") (rows_of (found_of operands.now))) }
+/// A search for a shorter trace, with its operands.
+fn shrink_of<'a>(operands: &ArgMatches<'a>) -> Result<Task, Unfit<'a>>
+    ensures within { IfOk result IsWithinTask }
+    ensures asked { IfOk result
+        (AsksForTask (codes "shrink") (rows_of (found_of operands.now))) }
     ensures unfit { IfErr result (IsUnfit (codes "shrink") (rows_of (found_of operands.now))) }
 {
-    let trace = file_of(operands, "TRACE")?;
     let edge = whole_of(operands, "edge", 1)?;
-    Ok(Job::Shrink {
-        scenario,
-        trace,
+    Ok(Task::Shrink {
         edge,
         progress: is_flagged(operands, "progress"),
     })
@@ -488,16 +439,14 @@ fn rules_of<'a>(operands: &ArgMatches<'a>) -> Result<Job<'a>, Unfit<'a>>
     }
 }
 
-/// The state of the scenario's bus, with its other operands.
-fn state_of<'a>(scenario: &'a str, operands: &ArgMatches<'a>) -> Result<Job<'a>, Unfit<'a>>
-    ensures within { IfOk result IsWithin }
-    ensures asked { IsFile (codes "SCENARIO") (rows_of (found_of operands.now)) scenario.now
-        → IfOk result (AsksFor (codes "state") (rows_of (found_of operands.now))) }
+/// A report of where the bus stands, with its operands.
+fn state_of<'a>(operands: &ArgMatches<'a>) -> Result<Task, Unfit<'a>>
+    ensures within { IfOk result IsWithinTask }
+    ensures asked { IfOk result
+        (AsksForTask (codes "state") (rows_of (found_of operands.now))) }
     ensures unfit { IfErr result (IsUnfit (codes "state") (rows_of (found_of operands.now))) }
 {
-    Ok(Job::State {
-        scenario,
-        trace: file_of(operands, "TRACE")?,
+    Ok(Task::State {
         after: whole_of(operands, "after", 0)?,
     })
 }
@@ -529,23 +478,20 @@ fn last_of(to: Option<u64>, first: u64) -> u64
     to.unwrap_or(first.saturating_add(SHOWN - 1))
 }
 
-/// A picture of the scenario's trace, with its other operands.
-fn show_of<'a>(scenario: &'a str, operands: &ArgMatches<'a>) -> Result<Job<'a>, Unfit<'a>>
-    ensures within { IfOk result IsWithin }
-    ensures asked { IsFile (codes "SCENARIO") (rows_of (found_of operands.now)) scenario.now
-        → IfOk result (AsksFor (codes "show") (rows_of (found_of operands.now))) }
+/// A picture, with its operands.
+fn show_of<'a>(operands: &ArgMatches<'a>) -> Result<Task, Unfit<'a>>
+    ensures within { IfOk result IsWithinTask }
+    ensures asked { IfOk result
+        (AsksForTask (codes "show") (rows_of (found_of operands.now))) }
     ensures unfit { IfErr result (IsUnfit (codes "show") (rows_of (found_of operands.now))) }
 {
-    let trace = file_of(operands, "TRACE")?;
     let to = whole_of(operands, "to", 1)?;
     let from = first_of(whole_of(operands, "from", 1)?, to);
     let to = last_of(to, from);
     if to < from || to - from >= MOST_SHOWN {
         return Err(Unfit::Window { from, to });
     }
-    Ok(Job::Show {
-        scenario,
-        trace,
+    Ok(Task::Show {
         from,
         to,
         color: is_flagged(operands, "color"),
@@ -567,15 +513,14 @@ fn slacks_of<'a>(operands: &ArgMatches<'a>) -> Result<Slacks, Unfit<'a>>
     }
 }
 
-/// An order of moments on the scenario, with its other operands.
-fn order_of<'a>(scenario: &'a str, operands: &ArgMatches<'a>) -> Result<Job<'a>, Unfit<'a>>
-    ensures within { IfOk result IsWithin }
-    ensures asked { IsFile (codes "SCENARIO") (rows_of (found_of operands.now)) scenario.now
-        → IfOk result (AsksFor (codes "order") (rows_of (found_of operands.now))) }
+/// An order of moments, with its operands.
+fn order_of<'a>(operands: &ArgMatches<'a>) -> Result<Work<'a>, Unfit<'a>>
+    ensures within { IfOk result IsWithinWork }
+    ensures asked { IfOk result
+        (AsksForWork (codes "order") (rows_of (found_of operands.now))) }
     ensures unfit { IfErr result (IsUnfit (codes "order") (rows_of (found_of operands.now))) }
 {
-    Ok(Job::Order {
-        scenario,
+    Ok(Work::Order {
         moments: file_of(operands, "MOMENTS")?,
         slacks: slacks_of(operands)?,
         places: is_flagged(operands, "where"),
@@ -604,25 +549,27 @@ fn seeds_in(text: &str) -> Option<(u64, u64)>
     }
 }
 
-/// The job, unless its progress is to be reported: that is possible only if several seeds are
-/// tried.
-fn without_progress(progress: bool, job: Job<'_>) -> Result<Job<'_>, Unfit<'_>>
-    ensures silent { progress ≡ false → result ≡ Ok job.entry }
+/// The choice, unless progress is to be reported: that is possible only if several seeds are tried.
+fn without_progress<'a>(progress: bool, choice: Choice) -> Result<Choice, Unfit<'a>>
+    ensures silent { progress ≡ false → result ≡ Ok choice }
     ensures idle { progress ≡ true → result ≡ Err Unfit.Idle }
 {
-    if progress { Err(Unfit::Idle) } else { Ok(job) }
+    if progress {
+        Err(Unfit::Idle)
+    } else {
+        Ok(choice)
+    }
 }
 
-/// A drive of the scenario, with its other operands: at random if there is a seed, and otherwise in
+/// How the edges of a drive are chosen: at random if there is a seed, or seeds, and otherwise in
 /// turn.
-fn drive_of<'a>(scenario: &'a str, operands: &ArgMatches<'a>) -> Result<Job<'a>, Unfit<'a>>
-    ensures within { IfOk result IsWithin }
-    ensures asked { IsFile (codes "SCENARIO") (rows_of (found_of operands.now)) scenario.now
-        → IfOk result (AsksFor (codes "drive") (rows_of (found_of operands.now))) }
-    ensures unfit { IfErr result (IsUnfit (codes "drive") (rows_of (found_of operands.now))) }
+fn choice_of<'a>(operands: &ArgMatches<'a>, version: Version) -> Result<Choice, Unfit<'a>>
+    ensures within { IfOk result IsWithinChoice }
+    ensures asked { IfOk result (IsChoice (rows_of (found_of operands.now)) version) }
+    ensures unfit { spelled (codes "version") (rows_of (found_of operands.now))
+        ≡ Some (version_number version)
+        → IfErr result (IsUnfit (codes "drive") (rows_of (found_of operands.now))) }
 {
-    let edges = number_of(operands, "edges", MOST_EDGES)?;
-    let version = version_of(operands)?;
     let until = goal_of(operands, version)?;
     let seed = whole_of(operands, "seed", 0)?;
     let progress = is_flagged(operands, "progress");
@@ -630,48 +577,44 @@ fn drive_of<'a>(scenario: &'a str, operands: &ArgMatches<'a>) -> Result<Job<'a>,
         (Some(_), Some(_), _) => Err(Unfit::Seeded),
         (None, Some(_), None) => Err(Unfit::Aimless { option: SEEDS }),
         (None, Some(named), Some(goal)) => match seeds_in(named) {
-            Some((first, last)) => Ok(Job::Search {
-                scenario,
-                edges,
+            Some((first, last)) => Ok(Choice::Sought {
                 first,
                 last,
                 goal,
-                version,
                 progress,
             }),
             None => Err(Unfit::Seeds { named }),
         },
         (None, None, Some(_)) => Err(Unfit::Seedless),
-        (Some(seed), None, until) => {
-            let job = Job::Draw {
-                scenario,
-                edges,
-                seed,
-                until,
-                version,
-            };
-            without_progress(progress, job)
-        }
-        (None, None, None) => {
-            let job = Job::Drive {
-                scenario,
-                edges,
-                version,
-            };
-            without_progress(progress, job)
-        }
+        (Some(seed), None, until) => without_progress(progress, Choice::Drawn { seed, until }),
+        (None, None, None) => without_progress(progress, Choice::InTurn),
     }
 }
 
-/// A run of the scenario, with its other operands.
-fn run_of<'a>(scenario: &'a str, operands: &ArgMatches<'a>) -> Result<Job<'a>, Unfit<'a>>
-    ensures within { IfOk result IsWithin }
-    ensures asked { IsFile (codes "SCENARIO") (rows_of (found_of operands.now)) scenario.now
-        → IfOk result (AsksFor (codes "run") (rows_of (found_of operands.now))) }
+/// A drive, with its operands.
+fn drive_of<'a>(operands: &ArgMatches<'a>) -> Result<Work<'a>, Unfit<'a>>
+    ensures within { IfOk result IsWithinWork }
+    ensures asked { IfOk result
+        (AsksForWork (codes "drive") (rows_of (found_of operands.now))) }
+    ensures unfit { IfErr result (IsUnfit (codes "drive") (rows_of (found_of operands.now))) }
+{
+    let edges = number_of(operands, "edges", MOST_EDGES)?;
+    let version = version_of(operands)?;
+    Ok(Work::Drive {
+        edges,
+        version,
+        choice: choice_of(operands, version)?,
+    })
+}
+
+/// A run, with its operands.
+fn run_of<'a>(operands: &ArgMatches<'a>) -> Result<Work<'a>, Unfit<'a>>
+    ensures within { IfOk result IsWithinWork }
+    ensures asked { IfOk result
+        (AsksForWork (codes "run") (rows_of (found_of operands.now))) }
     ensures unfit { IfErr result (IsUnfit (codes "run") (rows_of (found_of operands.now))) }
 {
-    Ok(Job::Run {
-        scenario,
+    Ok(Work::Run {
         edges: number_of(operands, "edges", MOST_EDGES)?,
         turns: number_of(operands, "turns", MOST_TURNS)?,
         version: version_of(operands)?,

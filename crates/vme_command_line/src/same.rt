@@ -1,25 +1,21 @@
-//! The job for which `same` asks.
+//! What is done for `same`.
 ghost use Rattle.std.specs.Prelude.{IfErr, IfOk, codes};
 ghost use Rattle.clap.specs.Words.{found_of, rows_of};
-ghost use Rattle.vme_command_line.specs.Asked.{AsksFor, IsFile};
-ghost use Rattle.vme_command_line.specs.Limits.{IsWithin};
+ghost use Rattle.vme_command_line.specs.Asked.{AsksForWork};
+ghost use Rattle.vme_command_line.specs.Limits.{IsWithinWork};
 ghost use Rattle.vme_command_line.specs.Unfits.{IsUnfit};
 
-use crate::{Job, Unfit, file_of};
+use crate::{Unfit, Work, file_of};
 use clap::ArgMatches;
 
-/// The comparison of two traces of the scenario.
-pub(crate) fn same_of<'a>(
-    scenario: &'a str,
-    operands: &ArgMatches<'a>,
-) -> Result<Job<'a>, Unfit<'a>>
-    ensures within { IfOk result IsWithin }
-    ensures asked { IsFile (codes "SCENARIO") (rows_of (found_of operands.now)) scenario.now
-        → IfOk result (AsksFor (codes "same") (rows_of (found_of operands.now))) }
+/// The comparison of two traces.
+pub(crate) fn same_of<'a>(operands: &ArgMatches<'a>) -> Result<Work<'a>, Unfit<'a>>
+    ensures within { IfOk result IsWithinWork }
+    ensures asked { IfOk result
+        (AsksForWork (codes "same") (rows_of (found_of operands.now))) }
     ensures unfit { IfErr result (IsUnfit (codes "same") (rows_of (found_of operands.now))) }
 {
-    Ok(Job::Same {
-        scenario,
+    Ok(Work::Same {
         trace: file_of(operands, "TRACE")?,
         other: file_of(operands, "OTHER")?,
     })

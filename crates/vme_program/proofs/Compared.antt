@@ -18,7 +18,8 @@ use Rattle.vme_reading.specs.Streams.{Streams, ReadNothing}
 use Rattle.vme_reading.specs.Pairs.{LentPair, ReadsPair}
 use Rattle.vme_same.specs.Comparing.{IsComparison}
 use Rattle.vme_same.specs.declared.comparisons.Comparison.{Comparison}
-use Rattle.vme_command_line.specs.declared.Job.TheVariants.{Same}
+use Rattle.vme_command_line.specs.declared.Job.TheVariants.{OnScenario}
+use Rattle.vme_command_line.specs.declared.Work.TheVariants.{Same}
 use Rattle.vme_program.specs.Done.{IsDone, Known}
 use Rattle.vme_program.specs.Names.{pair_fault_named}
 
@@ -29,7 +30,7 @@ ComparesText text s t answer =
 
 -- nothing is found, and nothing is written
 pub same_faulty : (scenario trace other : Bor (List ℕ)) (text : List ℕ) (s t : Streams) (held : Known) (f : PairFault) → ComparesText text s t (Err f)
-    → IsDone (Same scenario trace other) held held (Err (pair_fault_named scenario other f))
+    → IsDone (OnScenario scenario (Same trace other)) held held (Err (pair_fault_named scenario other f))
 same_faulty scenario trace other text s t held (pair.Engine fault.CannotRead) h = absurd h
 same_faulty scenario trace other text s t held (pair.Engine fault.TooLong) h = Keeps-refl held
 same_faulty scenario trace other text s t held (pair.Engine (fault.Scenario e)) h = inl (text, (h.0, h.1, Keeps-refl held))
@@ -49,7 +50,7 @@ pub same_found : (scenario trace other : Bor (List ℕ)) (text : List ℕ) (s t 
     → IfOk answer (λ status. (status ≡ comparison_status found) × Appends old new (comparison_lines trace.now other.now found))
     → OnErr answer (AppendsFront old new (comparison_lines trace.now other.now found))
     → IfErr answer (λ f. f ≡ Engine (fault.Trace Write))
-    → IsDone (Same scenario trace other) old new answer
+    → IsDone (OnScenario scenario (Same trace other)) old new answer
 same_found scenario trace other text s t old new found (Ok status) h ok front is = (text, (h.0, h.1, h.2, (found, was_found h.0 s t found h.3, ok.0, ok.1)))
 same_found scenario trace other text s t old new found (Err f) h ok front is =
-    subst (λ (g : ProgramFault). IsDone (Same scenario trace other) old new (Err g)) (sym is) (inl (text, (h.0, h.1, h.2, inr (refl, found, was_found h.0 s t found h.3, front))))
+    subst (λ (g : ProgramFault). IsDone (OnScenario scenario (Same trace other)) old new (Err g)) (sym is) (inl (text, (h.0, h.1, h.2, inr (refl, found, was_found h.0 s t found h.3, front))))

@@ -3,11 +3,10 @@ use Rattle.std.proofs.Common.{◌≡◌, inl, inr, ℕ, Bool, List, Result, Ok, 
 use Rattle.std.specs.Io.KnownBytes.{Keeps}
 use Rattle.std.specs.Borrow.{Bor}
 use Rattle.vme_model.specs.declared.signals.Version.{Version}
-use Rattle.vme_model.specs.Plan.{Plan}
 use Rattle.vme_trace.specs.declared.Fault.{Fault}
 use Rattle.vme_reading.specs.declared.Status.{Status}
 use Rattle.vme_reading.specs.declared.EngineFault.TheVariants as fault
-use Rattle.vme_reading.specs.Streams.{Streams, ReadNothing, WroteNothing, streams}
+use Rattle.vme_reading.specs.Streams.{ReadNothing, WroteNothing, streams}
 use Rattle.vme_reading.specs.Outcomes.{Answer, LentAsking}
 use Rattle.vme_replay.specs.Joining.{Joins}
 use Rattle.vme_reading.specs.Readings.{ReadsInput, ReadsLent}
@@ -24,20 +23,28 @@ use Rattle.vme_order.specs.declared.OrderingFault.TheVariants as order
 use Rattle.vme_order.specs.Ordering.{Answer as OrderAnswer, LentText, OrdersInput}
 use Rattle.vme_probe.specs.declared.ProbeFault.TheVariants as probe
 use Rattle.vme_probe.specs.Probing.{Answer as ProbeAnswer, LentText as LentCapture, ProbesInput}
-use Rattle.vme_command_line.specs.declared.Job.TheVariants.{Joined, OtherOrder, Order, Probe, Run}
+use Rattle.vme_command_line.specs.declared.Job.TheVariants.{Joined, OnScenario}
+use Rattle.vme_command_line.specs.declared.Task.{Task}
+use Rattle.vme_command_line.specs.declared.Work.TheVariants.{OnTrace, OtherOrder, Order, Probe, Run}
 use Rattle.vme_program.specs.declared.faults.ProgramFault.{ProgramFault}
-use Rattle.vme_program.specs.Done.{Alone, Hands, IsDone, Known, OnTrace}
-use Rattle.vme_program.specs.Names.{form_of, answer_named, order_answer_named, other_answer_named, probe_answer_named, run_answer_named}
+use Rattle.vme_program.specs.Done.{Alone, Does, DoesTask, Fails, Hands, IsDone, Known, OnFile, Stops}
+use Rattle.vme_program.specs.Names.{fault_named, form_of, answer_named, order_answer_named, other_answer_named, probe_answer_named, run_answer_named}
 
+-- a fault that every engine has
+fault_handed : (Ends : Result Status RunFault → Type 0) (Stops : List ℕ → Fault → Type 0) (Fails : ProgramFault → Type 0) (nothing : Type 0) (name : Bor (List ℕ)) (f : EngineFault) → Ends (Err (run.Engine f))
+    → (Ends (Err (run.Engine fault.CannotRead)) → nothing) → (Ends (Err (run.Engine fault.TooLong)) → nothing) → Hands Ends Stops Fails nothing (Err (fault_named name f))
+fault_handed Ends Stops Fails nothing name fault.CannotRead does unread long = unread does
+fault_handed Ends Stops Fails nothing name fault.TooLong does unread long = long does
+fault_handed Ends Stops Fails nothing name (fault.Scenario e) does unread long = inl does
+fault_handed Ends Stops Fails nothing name (fault.Trace f) does unread long = inl does
+fault_handed Ends Stops Fails nothing name (fault.Beyond edges) does unread long = inl does
+fault_handed Ends Stops Fails nothing name fault.NoMemory does unread long = inl does
+
+-- the answer of an engine that has no other faults
 pub handed : (Stops : List ℕ → Fault → Type 0) (Fails : ProgramFault → Type 0) (Does : Answer → Type 0) (nothing : Type 0) (name : Bor (List ℕ)) (answer : Answer) → Does answer
     → (Does (Err fault.CannotRead) → nothing) → (Does (Err fault.TooLong) → nothing) → Hands (Alone Does) Stops Fails nothing (answer_named name answer)
 handed Stops Fails Does nothing name (Ok status) does unread long = does
-handed Stops Fails Does nothing name (Err fault.CannotRead) does unread long = unread does
-handed Stops Fails Does nothing name (Err fault.TooLong) does unread long = long does
-handed Stops Fails Does nothing name (Err (fault.Scenario e)) does unread long = inl does
-handed Stops Fails Does nothing name (Err (fault.Trace f)) does unread long = inl does
-handed Stops Fails Does nothing name (Err (fault.Beyond edges)) does unread long = inl does
-handed Stops Fails Does nothing name (Err fault.NoMemory) does unread long = inl does
+handed Stops Fails Does nothing name (Err f) does unread long = fault_handed (Alone Does) Stops Fails nothing name f does unread long
 
 pub joined_done : (name : Bor (List ℕ)) (from to old new : Known) (answer : Answer) → Joins (streams from to old new) answer
     → IsDone Joined old new (answer_named name answer)
@@ -46,22 +53,20 @@ joined_done name from to old new answer does =
     (λ h. elim h.2 [ inl found ↦ absurd found.4 | inr none ↦ none.2 ])
     (λ h. elim h.2 [ inl found ↦ found.4.1 | inr none ↦ absurd none.3 ])
 
--- an engine on a scenario and a trace
-pub on_trace : (Stops : List ℕ → Fault → Type 0) (Ends : Streams → Plan → Answer → Type 0) (name : Bor (List ℕ)) (text : List ℕ) (from to old new : Known) (answer : Answer)
-    → LentAsking text (ReadNothing (streams from to old new) × WroteNothing (streams from to old new)) (Ends (streams from to old new)) answer
-    → Hands (Alone (OnTrace Ends old new)) Stops (λ f. ⊥) (Keeps old new) (answer_named name answer)
-on_trace Stops Ends name text from to old new answer does =
-    handed Stops (λ f. ⊥) (OnTrace Ends old new) (Keeps old new) name answer (text, from, to, does) (λ h. absurd h.3) (λ h. h.3.1.1)
+-- a task with a trace
+pub on_trace : (scenario trace : Bor (List ℕ)) (text : List ℕ) (task : Task) (from to old new : Known) (answer : Answer)
+    → LentAsking text (ReadNothing (streams from to old new) × WroteNothing (streams from to old new)) (DoesTask task (streams from to old new)) answer
+    → IsDone (OnScenario scenario (OnTrace task trace)) old new (answer_named scenario answer)
+on_trace scenario trace text task from to old new answer does =
+    handed (Stops (OnScenario scenario (OnTrace task trace))) (Fails (OnScenario scenario (OnTrace task trace)) old new) (OnFile LentAsking (DoesTask task) old new) (Keeps old new) scenario answer
+    (text, from, to, does) (λ h. absurd h.3) (λ h. h.3.1.1)
 
 pub run_done : (scenario : Bor (List ℕ)) (text : List ℕ) (edges turns : ℕ) (version : Version) (old new : Known) (answer : Result Status RunFault)
-    → Runs text version edges turns old new answer → IsDone (Run scenario edges turns version) old new (run_answer_named scenario answer)
+    → Runs text version edges turns old new answer → IsDone (OnScenario scenario (Run edges turns version)) old new (run_answer_named scenario answer)
 run_done scenario text edges turns version old new (Ok status) does = (text, does)
-run_done scenario text edges turns version old new (Err (run.Engine fault.CannotRead)) does = absurd does
-run_done scenario text edges turns version old new (Err (run.Engine fault.TooLong)) does = does.1
-run_done scenario text edges turns version old new (Err (run.Engine (fault.Scenario e))) does = inl (text, does)
-run_done scenario text edges turns version old new (Err (run.Engine (fault.Trace f))) does = inl (text, does)
-run_done scenario text edges turns version old new (Err (run.Engine (fault.Beyond n))) does = inl (text, does)
-run_done scenario text edges turns version old new (Err (run.Engine fault.NoMemory)) does = inl (text, does)
+run_done scenario text edges turns version old new (Err (run.Engine f)) does =
+    fault_handed (Does (OnScenario scenario (Run edges turns version)) old new) (Stops (OnScenario scenario (Run edges turns version))) (Fails (OnScenario scenario (Run edges turns version)) old new) (Keeps old new) scenario f
+    (text, does) (λ h. absurd h.1) (λ h. h.1.1)
 run_done scenario text edges turns version old new (Err run.NotStarted) does = (text, does)
 run_done scenario text edges turns version old new (Err (run.LogDiffers driver at)) does = (text, does)
 run_done scenario text edges turns version old new (Err (run.NotReplayed at)) does = absurd does
@@ -69,7 +74,7 @@ run_done scenario text edges turns version old new (Err (run.NotReplayed at)) do
 -- the other order of a race
 pub other_done : (scenario trace : Bor (List ℕ)) (text : List ℕ) (edge : ℕ) (from to old new : Known) (answer : Result Other EngineFault)
     → ReadsLent text (ReadNothing (streams from to old new) × WroteNothing (streams from to old new)) (λ p. ReadsInput (Orders edge p) (streams from to old new)) answer
-    → IsDone (OtherOrder scenario trace edge) old new (other_answer_named scenario edge answer)
+    → IsDone (OnScenario scenario (OtherOrder trace edge)) old new (other_answer_named scenario edge answer)
 other_done scenario trace text edge from to old new (Ok other.Written) does = (refl, (text, from, to, does))
 other_done scenario trace text edge from to old new (Ok other.NoRace) does = (refl, (text, from, to, does))
 other_done scenario trace text edge from to old new (Ok (other.Beyond n)) does = inl (text, from, to, does)
@@ -80,38 +85,27 @@ other_done scenario trace text edge from to old new (Err (fault.Trace f)) does =
 other_done scenario trace text edge from to old new (Err (fault.Beyond n)) does = absurd does
 other_done scenario trace text edge from to old new (Err fault.NoMemory) does = inl (text, from, to, does)
 
--- an engine on a scenario and moments
-order_done : (scenario moments : Bor (List ℕ)) (text : List ℕ) (slacks : Slacks) (places progress : Bool) (from to old new : Known) (answer : OrderAnswer)
-    → LentText text (ReadNothing (streams from to old new) × WroteNothing (streams from to old new)) (OrdersInput (form_of places) slacks (streams from to old new)) answer
-    → IsDone (Order scenario moments slacks places progress) old new (order_answer_named scenario answer)
-order_done scenario moments text slacks places progress from to old new (Ok status) does = (text, from, to, does)
-order_done scenario moments text slacks places progress from to old new (Err (order.Engine fault.CannotRead)) does = absurd does.3.2
-order_done scenario moments text slacks places progress from to old new (Err (order.Engine fault.TooLong)) does = does.1.1
-order_done scenario moments text slacks places progress from to old new (Err (order.Engine (fault.Scenario e))) does = inl (text, from, to, does)
-order_done scenario moments text slacks places progress from to old new (Err (order.Engine (fault.Trace f))) does = inl (text, from, to, does)
-order_done scenario moments text slacks places progress from to old new (Err (order.Engine (fault.Beyond n))) does = inl (text, from, to, does)
-order_done scenario moments text slacks places progress from to old new (Err (order.Engine fault.NoMemory)) does = inl (text, from, to, does)
-order_done scenario moments text slacks places progress from to old new (Err (order.Moments f)) does = (text, from, to, does)
-order_done scenario moments text slacks places progress from to old new (Err (order.NoBoard slot)) does = (text, from, to, does)
-order_done scenario moments text slacks places progress from to old new (Err order.TooManyOrders) does = (text, from, to, does)
-
--- the same of what is written in a form that is that of the job
-pub order_formed : (scenario moments : Bor (List ℕ)) (text : List ℕ) (slacks : Slacks) (places progress : Bool) (form : Form) (from to old new : Known) (answer : OrderAnswer) → form ≡ form_of places
+-- an order of moments, written in a form that is that of the job
+pub order_done : (scenario moments : Bor (List ℕ)) (text : List ℕ) (slacks : Slacks) (places progress : Bool) (form : Form) (from to old new : Known) (answer : OrderAnswer) → form ≡ form_of places
     → LentText text (ReadNothing (streams from to old new) × WroteNothing (streams from to old new)) (OrdersInput form slacks (streams from to old new)) answer
-    → IsDone (Order scenario moments slacks places progress) old new (order_answer_named scenario answer)
-order_formed scenario moments text slacks places progress form from to old new answer is does =
-    order_done scenario moments text slacks places progress from to old new answer
-    (subst (λ (f : Form). LentText text (ReadNothing (streams from to old new) × WroteNothing (streams from to old new)) (OrdersInput f slacks (streams from to old new)) answer) is does)
+    → IsDone (OnScenario scenario (Order moments slacks places progress)) old new (order_answer_named scenario answer)
+order_done scenario moments text slacks places progress form from to old new answer is does =
+    by answer (subst (λ (f : Form). LentText text (ReadNothing (streams from to old new) × WroteNothing (streams from to old new)) (OrdersInput f slacks (streams from to old new)) answer) is does)
+  where
+    by : (answer : OrderAnswer) → LentText text (ReadNothing (streams from to old new) × WroteNothing (streams from to old new)) (OrdersInput (form_of places) slacks (streams from to old new)) answer
+        → IsDone (OnScenario scenario (Order moments slacks places progress)) old new (order_answer_named scenario answer)
+    by (Ok status) does = (text, from, to, does)
+    by (Err (order.Engine f)) does =
+        fault_handed (Does (OnScenario scenario (Order moments slacks places progress)) old new) (Stops (OnScenario scenario (Order moments slacks places progress))) (Fails (OnScenario scenario (Order moments slacks places progress)) old new) (Keeps old new) scenario f (text, from, to, does) (λ h. absurd h.3.3.2) (λ h. h.3.1.1)
+    by (Err (order.Moments f)) does = (text, from, to, does)
+    by (Err (order.NoBoard slot)) does = (text, from, to, does)
+    by (Err order.TooManyOrders) does = (text, from, to, does)
 
--- an engine on a scenario and a capture
+-- a judgement of a capture
 pub probe_done : (scenario capture : Bor (List ℕ)) (text : List ℕ) (from to old new : Known) (answer : ProbeAnswer)
     → LentCapture text (ReadNothing (streams from to old new) × WroteNothing (streams from to old new)) (ProbesInput (streams from to old new)) answer
-    → IsDone (Probe scenario capture) old new (probe_answer_named scenario answer)
+    → IsDone (OnScenario scenario (Probe capture)) old new (probe_answer_named scenario answer)
 probe_done scenario capture text from to old new (Ok status) does = (text, from, to, does)
-probe_done scenario capture text from to old new (Err (probe.Engine fault.CannotRead)) does = absurd does.3.2
-probe_done scenario capture text from to old new (Err (probe.Engine fault.TooLong)) does = does.1.1
-probe_done scenario capture text from to old new (Err (probe.Engine (fault.Scenario e))) does = inl (text, from, to, does)
-probe_done scenario capture text from to old new (Err (probe.Engine (fault.Trace f))) does = inl (text, from, to, does)
-probe_done scenario capture text from to old new (Err (probe.Engine (fault.Beyond n))) does = inl (text, from, to, does)
-probe_done scenario capture text from to old new (Err (probe.Engine fault.NoMemory)) does = inl (text, from, to, does)
+probe_done scenario capture text from to old new (Err (probe.Engine f)) does =
+    fault_handed (Does (OnScenario scenario (Probe capture)) old new) (Stops (OnScenario scenario (Probe capture))) (Fails (OnScenario scenario (Probe capture)) old new) (Keeps old new) scenario f (text, from, to, does) (λ h. absurd h.3.3.2) (λ h. h.3.1.1)
 probe_done scenario capture text from to old new (Err (probe.Capture f)) does = (text, from, to, does)

@@ -1,6 +1,7 @@
 -- What a job leaves on its output, and returns.
 use Rattle.std.specs.Prelude.{◌≡◌, ◌⊎◌, ℕ, List, Option, Some, None, Result, Ok, Err}
 use Rattle.std.specs.Io.KnownBytes.{Appends, Keeps}
+use Rattle.vme_model.specs.declared.Version.{Version}
 use Rattle.vme_model.specs.Plan.{Plan}
 use Rattle.vme_rulebook.specs.declared.Entry.{Entry}
 use Rattle.vme_rulebook.specs.Entries.{entry_text}
@@ -42,13 +43,19 @@ use Rattle.vme_order.specs.Ordering.{Answer as OrderAnswer, LentText, OrdersInpu
 use Rattle.vme_probe.specs.declared.ProbeFault.TheVariants as probe
 use Rattle.vme_probe.specs.Probing.{Answer as ProbeAnswer, LentText as LentCapture, ProbesInput}
 use Rattle.vme_command_line.specs.declared.Job.{Job}
-use Rattle.vme_command_line.specs.declared.Job.TheVariants.{Joined, OwnVersion, Replay, Check, Checks, Cycles, Explain, Shrink, Rules, State, Show, Summary, Sums, Races, Walk, OtherOrder, Same, Order, Probe, Drive, Draw, Search, Run}
+use Rattle.vme_command_line.specs.declared.Job.TheVariants.{Joined, OwnVersion, Rules, OnScenario}
+use Rattle.vme_command_line.specs.declared.Work.{Work}
+use Rattle.vme_command_line.specs.declared.Work.TheVariants.{OnTrace, Checks, Sums, OtherOrder, Same, Order, Probe, Drive, Run}
+use Rattle.vme_command_line.specs.declared.Task.{Task}
+use Rattle.vme_command_line.specs.declared.Task.TheVariants.{Replay, Check, Explain, Shrink, State, Show, Cycles, Summary, Races, Walk}
+use Rattle.vme_command_line.specs.declared.Choice.{Choice}
+use Rattle.vme_command_line.specs.declared.Choice.TheVariants.{InTurn, Drawn, Sought}
 use Rattle.vme_command_line.specs.Asked.{Ask, texts_of}
 use Rattle.vme_command_line.specs.declared.TheConstants.{VERSION}
 use Rattle.vme_program.specs.CheckedFiles.{ChecksFiles, HasFaulty}
 use Rattle.vme_program.specs.Comparisons.{ComparesFiles, SecondStops}
 use Rattle.vme_program.specs.Names.{form_of, line_form}
-use Rattle.vme_program.specs.Reaching.{GivesUp, Unhindered}
+use Rattle.vme_program.specs.Reaching.{GivesUp, Unhindered, goal_of}
 use Rattle.vme_program.specs.Statuses.{exit_code}
 use Rattle.vme_program.specs.Together.{LacksFiles, SumsFiles}
 use Rattle.vme_program.specs.declared.faults.ProgramFault.{ProgramFault}
@@ -57,17 +64,29 @@ use Rattle.vme_program.specs.declared.faults.ProgramFault.TheVariants.{CannotRea
 abbrev pub Known : Type 0
 Known = Option (List ℕ)
 
--- the answer of an engine that starts no thread
-abbrev pub Alone : (Answer → Type 0) → Result Status RunFault → Type 0
-Alone Ends (Ok status) = Ends (Ok status)
-Alone Ends (Err (run.Engine f)) = Ends (Err f)
-Alone Ends (Err _) = ⊥
+-- The answer of an engine, without the faults that it has alone: `own` makes one of its faults of
+-- one that every engine has.
+abbrev pub Shared :
+    {F : Type 0} → (EngineFault → F) → (Result Status F → Type 0) → Result Status RunFault → Type 0
+Shared own Ends (Ok status) = Ends (Ok status)
+Shared own Ends (Err (run.Engine f)) = Ends (Err (own f))
+Shared own Ends (Err _) = ⊥
 
--- an engine that does this on a plan and a trace
-abbrev pub OnTrace : (Streams → Plan → Answer → Type 0) → Known → Known → Answer → Type 0
-OnTrace Ends old new answer = (text : List ℕ) × (from : Known) × (to : Known)
+-- the answer of an engine that has no other faults
+abbrev pub Alone : (Answer → Type 0) → Result Status RunFault → Type 0
+Alone Ends = Shared (λ f. f) Ends
+
+-- what an engine does on the text of a scenario, to which it is lent in this way, and on a file
+abbrev pub OnFile :
+    {A B : Type 0} → (List ℕ → Type 0 → (Plan → A → Type 0) → B → Type 0)
+    → (Streams → Plan → A → Type 0) → Known → Known → B → Type 0
+OnFile Lends Runs old new answer = (text : List ℕ) × (from : Known) × (to : Known)
     × (let s = streams from to old new in
-    LentAsking text (ReadNothing s × WroteNothing s) (Ends s) answer)
+    Lends text (ReadNothing s × WroteNothing s) (Runs s) answer)
+
+-- what an engine does on the text of a scenario alone
+abbrev pub OnText : (Plan → Answer → Type 0) → Known → Known → Answer → Type 0
+OnText Runs old new answer = (text : List ℕ) × Lent text (Keeps old new) Runs answer
 
 -- a text is written, or at X8 a prefix of it
 abbrev pub PrintsText : List ℕ → Known → Known → Answer → Type 0
@@ -82,33 +101,15 @@ rules_text None = list
 
 -- what the engine `order` does on a plan and moments
 abbrev pub OnMoments : Form → Slacks → Known → Known → OrderAnswer → Type 0
-OnMoments form slacks old new answer = (text : List ℕ) × (from : Known) × (to : Known)
-    × (let s = streams from to old new in
-    LentText text (ReadNothing s × WroteNothing s) (OrdersInput form slacks s) answer)
-
--- the answer of `order`, without the faults that it has alone
-abbrev pub Ordered : (OrderAnswer → Type 0) → Result Status RunFault → Type 0
-Ordered Ends (Ok status) = Ends (Ok status)
-Ordered Ends (Err (run.Engine f)) = Ends (Err (order.Engine f))
-Ordered Ends (Err _) = ⊥
+OnMoments form slacks = OnFile LentText (OrdersInput form slacks)
 
 -- what the engine `probe` does on a plan and a capture
 abbrev pub OnCapture : Known → Known → ProbeAnswer → Type 0
-OnCapture old new answer = (text : List ℕ) × (from : Known) × (to : Known)
-    × (let s = streams from to old new in
-    LentCapture text (ReadNothing s × WroteNothing s) (ProbesInput s) answer)
-
--- the answer of `probe`, without the faults of the capture
-abbrev pub Probed : (ProbeAnswer → Type 0) → Result Status RunFault → Type 0
-Probed Ends (Ok status) = Ends (Ok status)
-Probed Ends (Err (run.Engine f)) = Ends (Err (probe.Engine f))
-Probed Ends (Err _) = ⊥
+OnCapture = OnFile LentCapture ProbesInput
 
 -- what the engine of `races --other` does on a plan and a trace
 abbrev pub OnRace : ℕ → Known → Known → Result Other EngineFault → Type 0
-OnRace edge old new answer = (text : List ℕ) × (from : Known) × (to : Known)
-    × (let s = streams from to old new in
-    ReadsLent text (ReadNothing s × WroteNothing s) (λ p. ReadsInput (Orders edge p) s) answer)
+OnRace edge = OnFile ReadsLent (λ s p. ReadsInput (Orders edge p) s)
 
 -- its answer, if there is such an order
 abbrev pub Reordered : (Result Other EngineFault → Type 0) → Result Status RunFault → Type 0
@@ -117,70 +118,76 @@ Reordered Ends (Err (run.Engine (fault.Beyond edges))) = Ends (Ok (other.Beyond 
 Reordered Ends (Err (run.Engine f)) = Ends (Err f)
 Reordered Ends (Err _) = ⊥
 
--- What the engine of a job does, by what the output held before and holds now, on some text of a
+-- what the engine of a task does on a plan and a trace
+abbrev pub DoesTask : Task → Streams → Plan → Answer → Type 0
+DoesTask (Replay full) = ReplaysInput (line_form full)
+DoesTask Check = ChecksInput
+DoesTask (Explain edge) = ExplainsInput edge
+DoesTask (Shrink edge progress) = ShrinksInput edge
+DoesTask (State after) = StatesInput after
+DoesTask (Show from to color) = ShowsInput from to color
+DoesTask Cycles = ReportsInput
+DoesTask Summary = SumsInput
+DoesTask Races = ReportsRaces
+DoesTask (Walk edge) = PrintsWalkInput edge
+
+-- what the engine of a drive does on a plan
+abbrev pub DoesDrive : ℕ → Version → Choice → Known → Known → Plan → Answer → Type 0
+DoesDrive edges version InTurn old new = Drives version edges old new
+DoesDrive edges version (Drawn seed until) old new = Draws version seed edges until old new
+DoesDrive edges version (Sought first last goal progress) old new = λ p answer.
+    (found : Found) × (answer ≡ found_answer found)
+    × Finds version edges first last goal old new found p answer
+
+-- What the engine of a work does, by what the output held before and holds now, on some text of a
 -- scenario, and on some input, given the bytes that it had left before and has left now. (No clause
 -- can say what a file gives.)
+abbrev pub DoesWork : Work → Known → Known → Result Status RunFault → Type 0
+DoesWork (OnTrace task trace) old new = Alone (OnFile LentAsking (DoesTask task) old new)
+DoesWork (Checks traces) old new =
+    Alone (OnText (ChecksFiles (texts_of traces.items) old new) old new)
+DoesWork (Sums traces) old new = Alone (OnText (SumsFiles (texts_of traces.items) old new) old new)
+DoesWork (OtherOrder trace edge) old new = Reordered (OnRace edge old new)
+DoesWork (Same trace other) old new = Alone (λ answer.
+    (text : List ℕ)
+    × LentAsking text (Keeps old new) (ComparesFiles trace.now other.now old new) answer)
+DoesWork (Order moments slacks places progress) old new =
+    Shared order.Engine (OnMoments (form_of places) slacks old new)
+DoesWork (Probe capture) old new = Shared probe.Engine (OnCapture old new)
+DoesWork (Drive edges version choice) old new =
+    Alone (OnText (Unhindered (goal_of choice) (DoesDrive edges version choice old new)) old new)
+DoesWork (Run edges turns version) old new = λ answer.
+    (text : List ℕ) × Runs text version edges turns old new answer
+
+-- what the engine of a job does
 abbrev pub Does : Job → Known → Known → Result Status RunFault → Type 0
 Does Joined old new =
     Alone (λ answer. (from : Known) × (to : Known) × Joins (streams from to old new) answer)
 Does OwnVersion old new = Alone (PrintsText VERSION.now old new)
 Does (Rules entry) old new = Alone (PrintsText (rules_text entry) old new)
-Does (Replay scenario trace full) old new =
-    Alone (OnTrace (ReplaysInput (line_form full)) old new)
-Does (Check scenario trace) old new = Alone (OnTrace ChecksInput old new)
-Does (Checks scenario traces) old new = Alone (λ answer.
-    (text : List ℕ)
-    × Lent text (Keeps old new) (ChecksFiles (texts_of traces.items) old new) answer)
-Does (Cycles scenario trace) old new = Alone (OnTrace ReportsInput old new)
-Does (Explain scenario trace edge) old new = Alone (OnTrace (ExplainsInput edge) old new)
-Does (Shrink scenario trace edge progress) old new =
-    Alone (OnTrace (ShrinksInput edge) old new)
-Does (State scenario trace after) old new = Alone (OnTrace (StatesInput after) old new)
-Does (Show scenario trace from to color) old new =
-    Alone (OnTrace (ShowsInput from to color) old new)
-Does (Summary scenario trace) old new = Alone (OnTrace SumsInput old new)
-Does (Sums scenario traces) old new = Alone (λ answer.
-    (text : List ℕ)
-    × Lent text (Keeps old new) (SumsFiles (texts_of traces.items) old new) answer)
-Does (Races scenario trace) old new = Alone (OnTrace ReportsRaces old new)
-Does (Walk scenario trace edge) old new = Alone (OnTrace (PrintsWalkInput edge) old new)
-Does (OtherOrder scenario trace edge) old new = Reordered (OnRace edge old new)
-Does (Same scenario trace other) old new = Alone (λ answer.
-    (text : List ℕ)
-    × LentAsking text (Keeps old new) (ComparesFiles trace.now other.now old new) answer)
-Does (Order scenario moments slacks places progress) old new =
-    Ordered (OnMoments (form_of places) slacks old new)
-Does (Probe scenario capture) old new = Probed (OnCapture old new)
-Does (Drive scenario edges version) old new = Alone (λ answer.
-    (text : List ℕ) × Lent text (Keeps old new) (Drives version edges old new) answer)
-Does (Draw scenario edges seed until version) old new = Alone (λ answer.
-    (text : List ℕ)
-    × Lent text (Keeps old new) (Unhindered until (Draws version seed edges until old new)) answer)
-Does (Search scenario edges first last goal version progress) old new = Alone (λ answer.
-    (text : List ℕ) × (found : Found) × (answer ≡ found_answer found)
-    × Lent text (Keeps old new)
-    (Unhindered (Some goal) (Finds version edges first last goal old new found)) answer)
-Does (Run scenario edges turns version) old new = λ answer.
-    (text : List ℕ) × Runs text version edges turns old new answer
+Does (OnScenario scenario work) old new = DoesWork work old new
 
 -- a trace of a job that reads several has a fault
 abbrev pub Stops : Job → List ℕ → Fault → Type 0
-Stops (Same scenario trace other) name f =
+Stops (OnScenario scenario (Same trace other)) name f =
     (text : List ℕ) × (p : Plan) × (read text ≡ Ok p) × (name ≡ other.now) × SecondStops f
 Stops job name f = ⊥
 
+-- a work ends with a fault that it has alone
+abbrev pub FailsWork : Work → Known → Known → ProgramFault → Type 0
+FailsWork (Checks traces) old new SomeTraces = HasFaulty (texts_of traces.items) old new
+FailsWork (Sums traces) old new SomeTraces = LacksFiles (texts_of traces.items) old new
+FailsWork (OtherOrder trace edge) old new (NoRace asked) =
+    (asked ≡ edge) × OnRace edge old new (Ok other.NoRace)
+FailsWork (Order moments slacks places progress) old new (Ordering f) =
+    OnMoments (form_of places) slacks old new (Err f)
+FailsWork (Probe capture) old new (Capture f) = OnCapture old new (Err (probe.Capture f))
+FailsWork (Drive edges version choice) old new (NeverComes why) = GivesUp (goal_of choice) old new why
+FailsWork work old new f = ⊥
+
 -- a job ends with a fault that it has alone
 abbrev pub Fails : Job → Known → Known → ProgramFault → Type 0
-Fails (Checks scenario traces) old new SomeTraces = HasFaulty (texts_of traces.items) old new
-Fails (Sums scenario traces) old new SomeTraces = LacksFiles (texts_of traces.items) old new
-Fails (Order scenario moments slacks places progress) old new (Ordering f) =
-    OnMoments (form_of places) slacks old new (Err f)
-Fails (Probe scenario capture) old new (Capture f) = OnCapture old new (Err (probe.Capture f))
-Fails (OtherOrder scenario trace edge) old new (NoRace asked) =
-    (asked ≡ edge) × OnRace edge old new (Ok other.NoRace)
-Fails (Draw scenario edges seed until version) old new (NeverComes why) = GivesUp until old new why
-Fails (Search scenario edges first last goal version progress) old new (NeverComes why) =
-    GivesUp (Some goal) old new why
+Fails (OnScenario scenario work) old new f = FailsWork work old new f
 Fails job old new f = ⊥
 
 -- The answer is an engine's. Or a file could not be read, there was no memory for what is passed to

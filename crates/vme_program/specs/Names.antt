@@ -22,66 +22,37 @@ use Rattle.vme_races.specs.declared.other.OtherOrder.{OtherOrder as Other}
 use Rattle.vme_races.specs.declared.other.OtherOrder.TheVariants as other
 use Rattle.vme_command_line.specs.Asked.{texts_of}
 use Rattle.vme_command_line.specs.declared.Job.{Job}
-use Rattle.vme_command_line.specs.declared.Job.TheVariants.{Joined, OwnVersion, Replay, Check, Checks, Cycles, Explain, Shrink, Rules, State, Show, Summary, Sums, Races, Walk, OtherOrder, Same, Order, Probe, Drive, Draw, Search, Run}
+use Rattle.vme_command_line.specs.declared.Job.TheVariants.{Joined, OwnVersion, Rules, OnScenario}
+use Rattle.vme_command_line.specs.declared.Work.{Work}
+use Rattle.vme_command_line.specs.declared.Work.TheVariants.{OnTrace, Checks, Sums, OtherOrder, Same, Order, Probe, Drive, Run}
 use Rattle.vme_program.specs.declared.faults.ProgramFault.{ProgramFault}
 use Rattle.vme_program.specs.declared.faults.ProgramFault.TheVariants.{CannotRead, TooLong, Engine, InTrace, SomeTraces, NoRace, NeverComes, Boards, Ordering, Capture}
 
--- the name of the scenario of a job: standard input is `-`, and the version has none
+-- the name of the scenario of a job: standard input is `-`, and two jobs have none
 abbrev pub scenario_name : Job → List ℕ
 scenario_name Joined = codes "-"
 scenario_name OwnVersion = []
-scenario_name (Replay scenario trace full) = scenario.now
-scenario_name (Check scenario trace) = scenario.now
-scenario_name (Checks scenario traces) = scenario.now
-scenario_name (Cycles scenario trace) = scenario.now
-scenario_name (Explain scenario trace edge) = scenario.now
-scenario_name (Shrink scenario trace edge progress) = scenario.now
 scenario_name (Rules entry) = []
-scenario_name (State scenario trace after) = scenario.now
-scenario_name (Show scenario trace from to color) = scenario.now
-scenario_name (Summary scenario trace) = scenario.now
-scenario_name (Sums scenario traces) = scenario.now
-scenario_name (Races scenario trace) = scenario.now
-scenario_name (Walk scenario trace edge) = scenario.now
-scenario_name (OtherOrder scenario trace edge) = scenario.now
-scenario_name (Same scenario trace other) = scenario.now
-scenario_name (Order scenario moments slacks places progress) = scenario.now
-scenario_name (Probe scenario capture) = scenario.now
-scenario_name (Drive scenario edges version) = scenario.now
-scenario_name (Draw scenario edges seed until version) = scenario.now
-scenario_name (Search scenario edges first last goal version progress) = scenario.now
-scenario_name (Run scenario edges turns version) = scenario.now
+scenario_name (OnScenario scenario work) = scenario.now
+
+-- this is the name of a file of a work, beside the scenario
+abbrev pub IsFileOfWork : Work → List ℕ → Type 0
+IsFileOfWork (OnTrace task trace) name = name ≡ trace.now
+IsFileOfWork (Checks traces) name = Contains (texts_of traces.items) name
+IsFileOfWork (Sums traces) name = Contains (texts_of traces.items) name
+IsFileOfWork (OtherOrder trace edge) name = name ≡ trace.now
+IsFileOfWork (Same trace other) name = (name ≡ trace.now) ⊎ (name ≡ other.now)
+IsFileOfWork (Order moments slacks places progress) name = name ≡ moments.now
+IsFileOfWork (Probe capture) name = name ≡ capture.now
+IsFileOfWork (Drive edges version choice) name = ⊥
+IsFileOfWork (Run edges turns version) name = ⊥
 
 -- this is the name of a file of a job
 abbrev pub IsFileOf : Job → List ℕ → Type 0
 IsFileOf Joined name = name ≡ codes "-"
 IsFileOf OwnVersion name = ⊥
-IsFileOf (Replay scenario trace full) name = (name ≡ scenario.now) ⊎ (name ≡ trace.now)
-IsFileOf (Check scenario trace) name = (name ≡ scenario.now) ⊎ (name ≡ trace.now)
-IsFileOf (Checks scenario traces) name =
-    (name ≡ scenario.now) ⊎ Contains (texts_of traces.items) name
-IsFileOf (Cycles scenario trace) name = (name ≡ scenario.now) ⊎ (name ≡ trace.now)
-IsFileOf (Explain scenario trace edge) name = (name ≡ scenario.now) ⊎ (name ≡ trace.now)
-IsFileOf (Shrink scenario trace edge progress) name =
-    (name ≡ scenario.now) ⊎ (name ≡ trace.now)
 IsFileOf (Rules entry) name = ⊥
-IsFileOf (State scenario trace after) name = (name ≡ scenario.now) ⊎ (name ≡ trace.now)
-IsFileOf (Show scenario trace from to color) name = (name ≡ scenario.now) ⊎ (name ≡ trace.now)
-IsFileOf (Summary scenario trace) name = (name ≡ scenario.now) ⊎ (name ≡ trace.now)
-IsFileOf (Sums scenario traces) name =
-    (name ≡ scenario.now) ⊎ Contains (texts_of traces.items) name
-IsFileOf (Races scenario trace) name = (name ≡ scenario.now) ⊎ (name ≡ trace.now)
-IsFileOf (Walk scenario trace edge) name = (name ≡ scenario.now) ⊎ (name ≡ trace.now)
-IsFileOf (OtherOrder scenario trace edge) name = (name ≡ scenario.now) ⊎ (name ≡ trace.now)
-IsFileOf (Same scenario trace other) name =
-    (name ≡ scenario.now) ⊎ (name ≡ trace.now) ⊎ (name ≡ other.now)
-IsFileOf (Order scenario moments slacks places progress) name =
-    (name ≡ scenario.now) ⊎ (name ≡ moments.now)
-IsFileOf (Probe scenario capture) name = (name ≡ scenario.now) ⊎ (name ≡ capture.now)
-IsFileOf (Drive scenario edges version) name = name ≡ scenario.now
-IsFileOf (Draw scenario edges seed until version) name = name ≡ scenario.now
-IsFileOf (Search scenario edges first last goal version progress) name = name ≡ scenario.now
-IsFileOf (Run scenario edges turns version) name = name ≡ scenario.now
+IsFileOf (OnScenario scenario work) name = (name ≡ scenario.now) ⊎ IsFileOfWork work name
 
 -- an engine's fault, given the name of the scenario
 abbrev pub fault_named : Bor (List ℕ) → EngineFault → ProgramFault

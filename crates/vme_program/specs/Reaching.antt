@@ -10,9 +10,17 @@ use Rattle.vme_reach.specs.Needs.{hindrance_of}
 use Rattle.vme_reading.specs.declared.EngineFault.{EngineFault}
 use Rattle.vme_reading.specs.Outcomes.{Answer, scenario_limit}
 use Rattle.vme_reading.specs.Steps.{IsNoPlan}
+use Rattle.vme_command_line.specs.declared.Choice.{Choice}
+use Rattle.vme_command_line.specs.declared.Choice.TheVariants.{InTurn, Drawn, Sought}
 use Rattle.vme_program.specs.Names.{fault_named}
 use Rattle.vme_program.specs.declared.faults.ProgramFault.{ProgramFault}
 use Rattle.vme_program.specs.declared.faults.ProgramFault.TheVariants.{NeverComes}
+
+-- the goal with which the trace of a drive is to end, if there is one
+abbrev pub goal_of : Choice → Option Goal
+goal_of InTurn = None
+goal_of (Drawn seed until) = until
+goal_of (Sought first last goal progress) = Some goal
 
 -- what hinders a goal, if there is one
 abbrev pub hindrance_to : Plan → Option Goal → Option Hindrance

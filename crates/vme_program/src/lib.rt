@@ -10,6 +10,7 @@ mod arguments;
 mod checks;
 mod codes;
 mod comparisons;
+mod drives;
 mod escapes;
 mod faults;
 mod files;
@@ -18,6 +19,7 @@ mod jobs;
 mod probes;
 mod reporters;
 mod sums;
+mod tasks;
 
 use arguments::report_words;
 pub use arguments::{WordsFault, given};

@@ -1,12 +1,12 @@
-//! The job `probe`: what an analyser saw of a bus.
+//! The work of `probe`: what an analyser saw of a bus.
 ghost use Rattle.std.specs.Prelude.{◌≡◌, IfErr};
 ghost use Rattle.vme_program.specs.Done.{IsDone};
 ghost use Rattle.vme_program.specs.Names.{IsFaultOf, probe_answer_named};
 
 use crate::faults::ProgramFault;
-use crate::files::{open, read_scenario};
+use crate::files::open;
 use std::io::Write;
-use vme_command_line::Job;
+use vme_command_line::{Job, Work};
 use vme_probe::{ProbeFault, probe};
 use vme_reading::Status;
 
@@ -29,14 +29,15 @@ fn answer_of_probe<'a>(
 pub(crate) fn run_probe<'a, W: Write>(
     rt: &HostRuntime,
     scenario: &'a str,
+    text: &[u8],
     capture: &'a str,
     out: &mut W,
 ) -> Result<Status, ProgramFault<'a>>
-    ensures fault { IfErr result (IsFaultOf (Job.Probe scenario.entry capture.entry)) }
-    ensures done { IsDone (Job.Probe scenario.entry capture.entry)
+    ensures fault { IfErr result
+        (IsFaultOf (Job.OnScenario scenario.entry (Work.Probe capture.entry))) }
+    ensures done { IsDone (Job.OnScenario scenario.entry (Work.Probe capture.entry))
         (W.contents out.old) (W.contents out.new) result }
 {
-    let text = read_scenario(rt, scenario)?;
     let mut input = open(rt, capture)?;
-    answer_of_probe(scenario, probe(rt.alloc(), &text, &mut input, out))
+    answer_of_probe(scenario, probe(rt.alloc(), text, &mut input, out))
 }

@@ -1,7 +1,7 @@
 //! What the words of the command line mean. What is printed for usage errors and for help is in
 //! `acceptance/words`.
 use std::process::Abort;
-use vme_command_line::{Job, words};
+use vme_command_line::{Choice, Job, Task, Work, words};
 use vme_goals::{Aim, Event, Goal, Miss};
 use vme_model::{Condition, Driver, IrqKind, Rule, Version};
 
@@ -13,6 +13,17 @@ fn assert_job(rt: &(impl Abort + AllocGlobal), given: &[&str], wanted: Job) {
     }
 }
 
+/// Asserts for which work on a scenario words ask.
+fn assert_work(rt: &(impl Abort + AllocGlobal), given: &[&str], scenario: &str, work: Work) {
+    assert_job(rt, given, Job::OnScenario { scenario, work });
+}
+
+/// Asserts for which task with a trace words ask.
+fn assert_task(rt: &(impl Abort + AllocGlobal), given: &[&str], files: (&str, &str), task: Task) {
+    let (scenario, trace) = files;
+    assert_work(rt, given, scenario, Work::OnTrace { task, trace });
+}
+
 #[test]
 fn no_words_are_joined(rt: HostRuntime) {
     assert_job(&rt, &[], Job::Joined);
@@ -20,85 +31,44 @@ fn no_words_are_joined(rt: HostRuntime) {
 
 #[test]
 fn reads_two_files(rt: HostRuntime) {
-    let (scenario, trace) = ("board.toml", "tenure.vme");
-    assert_job(
-        &rt,
-        &["replay", scenario, trace],
-        Job::Replay {
-            scenario,
-            trace,
-            full: false,
-        },
-    );
-    assert_job(
-        &rt,
-        &["cycles", scenario, trace],
-        Job::Cycles { scenario, trace },
-    );
-    assert_job(
-        &rt,
-        &["races", scenario, trace],
-        Job::Races { scenario, trace },
-    );
-    assert_job(
-        &rt,
-        &["races", scenario, trace, "--edge", "7"],
-        Job::Walk {
-            scenario,
-            trace,
-            edge: 7,
-        },
-    );
-    assert_job(
-        &rt,
-        &["races", "--other=7", scenario, trace],
-        Job::OtherOrder {
-            scenario,
-            trace,
-            edge: 7,
-        },
-    );
-    assert_job(
-        &rt,
-        &["check", scenario, trace],
-        Job::Check { scenario, trace },
-    );
-    assert_job(
-        &rt,
-        &["summary", scenario, trace],
-        Job::Summary { scenario, trace },
-    );
+    let files = ("board.toml", "tenure.vme");
+    let (scenario, trace) = files;
+    let replay = ["replay", scenario, trace];
+    assert_task(&rt, &replay, files, Task::Replay { full: false });
+    assert_task(&rt, &["cycles", scenario, trace], files, Task::Cycles);
+    assert_task(&rt, &["races", scenario, trace], files, Task::Races);
+    let walk = ["races", scenario, trace, "--edge", "7"];
+    assert_task(&rt, &walk, files, Task::Walk { edge: 7 });
+    assert_task(&rt, &["check", scenario, trace], files, Task::Check);
+    assert_task(&rt, &["summary", scenario, trace], files, Task::Summary);
+    let other = ["races", "--other=7", scenario, trace];
+    assert_work(&rt, &other, scenario, Work::OtherOrder { trace, edge: 7 });
 }
 
 #[test]
 fn reads_two_traces_to_compare(rt: HostRuntime) {
     let (scenario, trace, other) = ("board.toml", "a.vme", "-b.vme");
-    assert_job(
-        &rt,
-        &["same", scenario, trace, "--", other],
-        Job::Same {
-            scenario,
-            trace,
-            other,
-        },
-    );
+    let given = ["same", scenario, trace, "--", other];
+    assert_work(&rt, &given, scenario, Work::Same { trace, other });
 }
 
 #[test]
 fn reads_a_capture(rt: HostRuntime) {
     let (scenario, capture) = ("board.toml", "-seen.cap");
-    assert_job(
-        &rt,
-        &["probe", scenario, "--", capture],
-        Job::Probe { scenario, capture },
-    );
+    let given = ["probe", scenario, "--", capture];
+    assert_work(&rt, &given, scenario, Work::Probe { capture });
 }
 
 #[test]
 fn reads_several_traces(rt: HostRuntime) {
     let given = ["summary", "board.toml", "a.vme", "--", "b.vme", "-c.vme"];
     match words(rt.alloc(), &given) {
-        Ok(Job::Sums { scenario, traces }) => {
+        Ok(
+            Job::OnScenario {
+                scenario,
+                work: Work::Sums { traces },
+            },
+        ) => {
             assert!(rt; scenario == "board.toml");
             assert!(rt; traces.as_slice() == ["a.vme", "b.vme", "-c.vme"].as_slice());
         }
@@ -108,7 +78,6 @@ fn reads_several_traces(rt: HostRuntime) {
 
 #[test]
 fn reads_which_edge_to_explain(rt: HostRuntime) {
-    let (scenario, trace) = ("S", "T");
     let given: [(&[&str], Option<u64>); 3] = [
         (&["explain", "S", "T"], None),
         (&["explain", "--edge=1", "S", "T"], Some(1)),
@@ -118,22 +87,12 @@ fn reads_which_edge_to_explain(rt: HostRuntime) {
         ),
     ];
     for (given, edge) in &given {
-        let edge = *edge;
-        assert_job(
-            &rt,
-            given,
-            Job::Explain {
-                scenario,
-                trace,
-                edge,
-            },
-        );
+        assert_task(&rt, given, ("S", "T"), Task::Explain { edge: *edge });
     }
 }
 
 #[test]
 fn reads_where_the_state_is_asked(rt: HostRuntime) {
-    let (scenario, trace) = ("S", "T");
     let given: [(&[&str], Option<u64>); 3] = [
         (&["state", "S", "T"], None),
         (&["state", "S", "T", "--after", "0"], Some(0)),
@@ -143,16 +102,7 @@ fn reads_where_the_state_is_asked(rt: HostRuntime) {
         ),
     ];
     for (given, after) in &given {
-        let after = *after;
-        assert_job(
-            &rt,
-            given,
-            Job::State {
-                scenario,
-                trace,
-                after,
-            },
-        );
+        assert_task(&rt, given, ("S", "T"), Task::State { after: *after });
     }
 }
 
@@ -215,14 +165,12 @@ const SHOWS: [(&[&str], u64, u64, bool); 17] = [
 #[test]
 fn reads_which_edges_to_show(rt: HostRuntime) {
     for (given, from, to, color) in &SHOWS {
-        let wanted = Job::Show {
-            scenario: "S",
-            trace: "T",
+        let wanted = Task::Show {
             from: *from,
             to: *to,
             color: *color,
         };
-        assert_job(&rt, given, wanted);
+        assert_task(&rt, given, ("S", "T"), wanted);
     }
 }
 
@@ -246,12 +194,12 @@ const DRIVES: [(&[&str], u32, Version); 5] = [
 #[test]
 fn reads_what_to_drive(rt: HostRuntime) {
     for (given, edges, version) in &DRIVES {
-        let wanted = Job::Drive {
-            scenario: "S",
+        let wanted = Work::Drive {
             edges: *edges,
             version: *version,
+            choice: Choice::InTurn,
         };
-        assert_job(&rt, given, wanted);
+        assert_work(&rt, given, "S", wanted);
     }
 }
 
@@ -287,14 +235,15 @@ const DRAWS: [(&[&str], u32, u64, Version); 3] = [
 #[test]
 fn reads_what_to_draw(rt: HostRuntime) {
     for (given, edges, seed, version) in &DRAWS {
-        let wanted = Job::Draw {
-            scenario: "S",
+        let wanted = Work::Drive {
             edges: *edges,
-            seed: *seed,
-            until: None,
             version: *version,
+            choice: Choice::Drawn {
+                seed: *seed,
+                until: None,
+            },
         };
-        assert_job(&rt, given, wanted);
+        assert_work(&rt, given, "S", wanted);
     }
 }
 
@@ -362,14 +311,15 @@ fn reads_what_a_trace_ends_with(rt: HostRuntime) {
             "--version",
             *version,
         ];
-        let wanted = Job::Draw {
-            scenario: "S",
+        let wanted = Work::Drive {
             edges: 8,
-            seed: 7,
-            until: Some(goal(*aim)),
             version: *rules,
+            choice: Choice::Drawn {
+                seed: 7,
+                until: Some(goal(*aim)),
+            },
         };
-        assert_job(&rt, &given, wanted);
+        assert_work(&rt, &given, "S", wanted);
     }
 }
 
@@ -395,18 +345,20 @@ fn reads_whose_edge_a_trace_ends_with(rt: HostRuntime) {
             "--of",
             *driver,
         ];
-        let wanted = Job::Draw {
-            scenario: "S",
-            edges: 8,
-            seed: 7,
-            until: Some(Goal {
-                aim: Aim::Miss(Miss::AnyOf(Rule::G13)),
-                driver: Some(*only),
-                after: *least,
-            }),
-            version: Version::One,
+        let goal = Goal {
+            aim: Aim::Miss(Miss::AnyOf(Rule::G13)),
+            driver: Some(*only),
+            after: *least,
         };
-        assert_job(&rt, &given, wanted);
+        let wanted = Work::Drive {
+            edges: 8,
+            version: Version::One,
+            choice: Choice::Drawn {
+                seed: 7,
+                until: Some(goal),
+            },
+        };
+        assert_work(&rt, &given, "S", wanted);
     }
 }
 
@@ -435,16 +387,17 @@ fn reads_which_seeds_to_try(rt: HostRuntime) {
             "--version=2",
             "S",
         ];
-        let wanted = Job::Search {
-            scenario: "S",
+        let wanted = Work::Drive {
             edges: 8,
-            first: *first,
-            last: *last,
-            goal: goal(Aim::Miss(Miss::Settling(2))),
             version: Version::Two,
-            progress: false,
+            choice: Choice::Sought {
+                first: *first,
+                last: *last,
+                goal: goal(Aim::Miss(Miss::Settling(2))),
+                progress: false,
+            },
         };
-        assert_job(&rt, &given, wanted);
+        assert_work(&rt, &given, "S", wanted);
     }
 }
 
@@ -458,16 +411,17 @@ fn reads_whether_seeds_are_told(rt: HostRuntime) {
         "--seeds=0..9",
         "--until=S2",
     ];
-    let wanted = Job::Search {
-        scenario: "S",
+    let wanted = Work::Drive {
         edges: 8,
-        first: 0,
-        last: 9,
-        goal: goal(Aim::Miss(Miss::Settling(2))),
         version: Version::One,
-        progress: true,
+        choice: Choice::Sought {
+            first: 0,
+            last: 9,
+            goal: goal(Aim::Miss(Miss::Settling(2))),
+            progress: true,
+        },
     };
-    assert_job(&rt, &given, wanted);
+    assert_work(&rt, &given, "S", wanted);
 }
 
 #[test]
@@ -481,11 +435,10 @@ fn reads_what_to_run(rt: HostRuntime) {
         "--turns",
         "1000000",
     ];
-    let wanted = Job::Run {
-        scenario: "S",
+    let wanted = Work::Run {
         edges: 1048576,
         turns: 1000000,
         version: Version::Two,
     };
-    assert_job(&rt, &given, wanted);
+    assert_work(&rt, &given, "S", wanted);
 }

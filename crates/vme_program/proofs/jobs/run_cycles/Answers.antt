@@ -1,9 +1,0 @@
-use Rattle.std.proofs.Common.{None}
-use Rattle.vme_cycles.specs.Outcomes.{ReportsInput}
-use Rattle.vme_program.proofs.Handing.{on_trace}
-use Rattle.vme_program.proofs.jobs.run_cycles.Goals as goal
-
-pub returns-clause-done : goal.returns-clause-done
-returns-clause-done g c =
-    rw c.answer_of.ensures
-    (on_trace _ ReportsInput c.args.scenario _ None None (g.W.Write.contents c.args.out.now) (g.W.Write.contents c.cycles.new.out) c.cycles.result c.cycles.ensures)
