@@ -25,8 +25,8 @@ use Rattle.vme_same.specs.declared.progress.Sought.{Sought}
 use Rattle.vme_same.specs.declared.progress.Progress.{Progress}
 use Rattle.vme_same.specs.declared.progress.Progress.TheVariants.{Open, Finds}
 use Rattle.vme_same.specs.declared.rest.Rest.{Rest}
-use Rattle.vme_same.specs.Comparing.{Compares, GoesBack, HasNoneOf, IsFirstOf, IsMissing, IsOutcome, IsOver, IsPlace, StaysBack}
-use Rattle.vme_same.specs.Kept.{GoesBy, IsAt, IsOpen, IsSought, IsSure, Leads, edges_of, numbers}
+use Rattle.vme_same.specs.Comparing.{Compares, GoesBack, HasNoneOf, IsFirstOf, IsMissing, IsOver, IsPlace, StaysBack}
+use Rattle.vme_same.specs.Kept.{GoesBy, IsAt, IsOpen, IsOutcomeOf, IsOutcomeWith, IsSought, IsSure, Leads, Traces, edges_of, numbers, traces_of, with_first, with_second}
 use Rattle.vme_same.proofs.Lists.{before_count, first_on, has_some, numbers_append, place_of, split_of}
 use Rattle.vme_same.proofs.Brought.{brought_at, legal_taken, swaps_none, swaps_on, swaps_under}
 
@@ -62,9 +62,12 @@ by_versions One Two = inr (λ e. absurd (cc))
 by_versions Two One = inr (λ e. absurd (cc))
 
 module _ (p : Plan) (v w : Version) where
+  abbrev none_taken : Traces
+  none_taken = traces_of p v w [] []
+
   open_first : (rest : Rest) (waiting : List Next) (taken : ℕ) → v ≡ w → rest.edges.items ≡ []
       → IsStateOf v p [] rest.behind → waiting ≡ [] → taken ≡ 0
-      → IsOpen p v w [] [] (edges_of waiting) rest taken
+      → IsOpen none_taken (edges_of waiting) rest taken
   open_first rest waiting taken same none state idle first =
       let left : [] ≡ numbers rest.edges.items = ap numbers (sym none) in
       let next : [] ≡ edges_of waiting = ap edges_of (sym idle) in
@@ -73,9 +76,9 @@ module _ (p : Plan) (v w : Version) where
         state = state;
         legal = subst (λ k. IsLegal v p (edges_in (k ++ []))) left tt;
         swaps = subst (λ k. AreOneButForSwaps v p [] (edges_in (k ++ []))) left (swaps_none v p []);
-        leads = subst (λ k. Leads p v w [] [] [] k taken (edges_of waiting)) left
-            (subst (λ es. Leads p v w [] [] [] [] taken es) next
-            (subst (λ n. Leads p v w [] [] [] [] n []) (sym first)
+        leads = subst (λ k. Leads none_taken [] k taken (edges_of waiting)) left
+            (subst (λ es. Leads none_taken [] [] taken es) next
+            (subst (λ n. Leads none_taken [] [] n []) (sym first)
             (λ more later found compares. inr (
               same,
               subst (λ k. Compares v p [] k 0 later found) refl compares,
@@ -87,63 +90,69 @@ module _ (p : Plan) (v w : Version) where
   pub going_first : (progress : Progress) (waiting : List Next) (rest : Rest) (taken : ℕ)
       → (v ≡ w → progress ≡ Open) → (¬ (v ≡ w) → progress ≡ Finds OtherVersion)
       → rest.edges.items ≡ [] → IsStateOf v p [] rest.behind → waiting ≡ [] → taken ≡ 0
-      → GoesBy p v w [] [] false false waiting rest taken progress
+      → GoesBy none_taken false false waiting rest taken progress
   going_first progress waiting rest taken same other none state idle first =
       by_cases (by_versions v w)
     where
-      by_cases : (v ≡ w) ⊎ (v ≢ w) → GoesBy p v w [] [] false false waiting rest taken progress
-      by_cases (inl is) = subst (GoesBy p v w [] [] false false waiting rest taken) (sym (same is))
+      by_cases : (v ≡ w) ⊎ (v ≢ w) → GoesBy none_taken false false waiting rest taken progress
+      by_cases (inl is) = subst (GoesBy none_taken false false waiting rest taken) (sym (same is))
           (open_first rest waiting taken is none state idle first)
-      by_cases (inr is) = subst (GoesBy p v w [] [] false false waiting rest taken) (sym (other is))
+      by_cases (inr is) = subst (GoesBy none_taken false false waiting rest taken) (sym (other is))
           (λ more later ends over. inl (is, refl))
 
 -- ---- one more edge of either trace
 
-module _ (p : Plan) (v w : Version) (k : Numbered) (fs : List Edge) where
+module _ (t : Traces) where
+  abbrev p : Plan
+  p = t.plan
+
+  abbrev v : Version
+  v = t.first_version
+
   module _ (taken left : Numbered) (n : ℕ) (next : List Edge)
-      (leads : Leads p v w k fs taken left n next) where
-    pub leads_more : (x : ℕ × Edge) → Leads p v w (x ∷ k) fs taken (x ∷ left) n next
+      (leads : Leads t taken left n next) where
+    pub leads_more : (x : ℕ × Edge) → Leads (with_first t x) taken (x ∷ left) n next
     leads_more x more later found compares =
-        subst (λ l. IsOutcome p v w l (fs ++ later) found) (append_assoc more (x ∷ []) k)
+        subst (λ l. IsOutcomeOf (record t { first = l; second = t.second ++ later }) found) (append_assoc more (x ∷ []) t.first)
         (leads (more ++ x ∷ []) later found
         (subst (λ l. Compares v p taken l n (next ++ later) found)
         (sym (append_assoc more (x ∷ []) left)) compares))
 
-    pub leads_later : (e : Edge) → Leads p v w k (fs ++ e ∷ []) taken left n (next ++ e ∷ [])
+    pub leads_later : (e : Edge) → Leads (with_second t e) taken left n (next ++ e ∷ [])
     leads_later e more later found compares =
-        subst (λ l. IsOutcome p v w (more ++ k) l found) (sym (append_assoc fs (e ∷ []) later))
+        subst (λ l. IsOutcomeOf (record t { first = more ++ t.first; second = l }) found) (sym (append_assoc t.second (e ∷ []) later))
         (leads more (e ∷ later) found
         (subst (λ l. Compares v p taken (more ++ left) n l found)
         (append_assoc next (e ∷ []) later) compares))
 
-  module _ (ended over : Bool) (found : Comparison) (sure : IsSure p v w k fs ended over found) where
-    pub sure_more : (x : ℕ × Edge) → ended ≡ false → IsSure p v w (x ∷ k) fs ended over found
+  module _ (ended over : Bool) (found : Comparison) (sure : IsSure t ended over found) where
+    pub sure_more : (x : ℕ × Edge) → ended ≡ false → IsSure (with_first t x) ended over found
     sure_more x goes more later first second =
-        subst (λ l. IsOutcome p v w l (fs ++ later) found) (append_assoc more (x ∷ []) k)
+        subst (λ l. IsOutcomeOf (record t { first = l; second = t.second ++ later }) found) (append_assoc more (x ∷ []) t.first)
         (sure (more ++ x ∷ []) later (λ is. absurd (cc (goes, is))) second)
 
     pub sure_later : (e : Edge) → over ≡ false
-        → IsSure p v w k (fs ++ e ∷ []) ended over found
+        → IsSure (with_second t e) ended over found
     sure_later e goes more later first second =
-        subst (λ l. IsOutcome p v w (more ++ k) l found) (sym (append_assoc fs (e ∷ []) later))
+        subst (λ l. IsOutcomeOf (record t { first = more ++ t.first; second = l }) found) (sym (append_assoc t.second (e ∷ []) later))
         (sure more (e ∷ later) first (λ is. absurd (cc (goes, is))))
 
     -- it is still so when a trace has ended
-    pub sure_ended : IsSure p v w k fs true over found
+    pub sure_ended : IsSure t true over found
     sure_ended more later first second = sure more later (λ is. first refl) second
 
-    pub sure_over : IsSure p v w k fs ended true found
+    pub sure_over : IsSure t ended true found
     sure_over more later first second = sure more later first (λ is. second refl)
 
   -- ---- an edge that is matched
 
   module _ (e : Edge) (next : List Edge) (rest : Rest) (n number : ℕ)
-      (ready : IsOpen p v w k fs (e ∷ next) rest n) (is : number ≡ n + 1) where
+      (ready : IsOpen t (e ∷ next) rest n) (is : number ≡ n + 1) where
     -- it stays back for this reason, whatever comes
     stays_sure : (ended over : Bool) (why : Why) (own : Option (ℕ × Edge))
         → ((more : Numbered) → StaysBack v p e ready.taken (more ++ numbers rest.edges.items) why)
         → ((more : Numbered) → IsFirstOf e.driver (more ++ numbers rest.edges.items) own)
-        → IsSure p v w k fs ended over (Differs number e why own)
+        → IsSure t ended over (Differs number e why own)
     stays_sure ended over why own stays firsts more later first second =
         ready.leads more later (Differs number e why own)
         (inl (why, own, stays more, firsts more, ap (λ m. Differs m e why own) is))
@@ -160,7 +169,7 @@ module _ (p : Plan) (v w : Version) (k : Numbered) (fs : List Edge) where
     pub far_sure : (ended over : Bool) (place : ℕ) → IsAt e place rest.edges.items
         → most_passed < place → (own : Option (ℕ × Edge))
         → IsFirstOf e.driver (numbers rest.edges.items) own
-        → IsSure p v w k fs ended over (Differs number e (Stops Far) own)
+        → IsSure t ended over (Differs number e (Stops Far) own)
     far_sure ended over place at far own first = stays_sure ended over (Stops Far) own (λ more. (
       place_of e place rest.edges.items at more,
       subst (λ m. most_passed < m) (sym (before_count e place rest.edges.items at)) far,
@@ -179,7 +188,7 @@ module _ (p : Plan) (v w : Version) (k : Numbered) (fs : List Edge) where
 
       pub stops_sure : (ended over : Bool) (met : Stop) → stop ≡ Some met
           → (own : Option (ℕ × Edge)) → IsFirstOf e.driver (numbers rest.edges.items) own
-          → IsSure p v w k fs ended over (Differs number e (Stops met) own)
+          → IsSure t ended over (Differs number e (Stops met) own)
       stops_sure ended over met meets own first = stays_sure ended over (Stops met) own (λ more.
           stays_by v p e ready.taken (more ++ numbers rest.edges.items) met
           (place_of e place rest.edges.items at more) within
@@ -215,7 +224,7 @@ module _ (p : Plan) (v w : Version) (k : Numbered) (fs : List Edge) where
         front : IsLegal v p (e ∷ edges_in ready.taken)
         front = legal_taken v p left at.left.number e ready.taken legal
 
-        leads : Leads p v w k fs (x ∷ ready.taken) left number next
+        leads : Leads t (x ∷ ready.taken) left number next
         leads more later found compares =
             ready.leads more later found (inr (
               place_of e place rest.edges.items at more,
@@ -226,18 +235,18 @@ module _ (p : Plan) (v w : Version) (k : Numbered) (fs : List Edge) where
                   (subst (λ m. Compares v p (x ∷ ready.taken) (more ++ left) m (next ++ later) found) is compares),
             ))
 
-        pub open_next : IsOpen p v w k fs next after number
+        pub open_next : IsOpen t next after number
         open_next =
             let all = ready.all in
             record {
               taken = x ∷ ready.taken;
               state = moves v p (edges_in ready.taken) ready.state front.0;
               legal = subst (λ l. IsLegal v p (edges_in (l ++ x ∷ ready.taken))) left_is legal;
-              swaps = subst (λ l. AreOneButForSwaps v p (edges_in k) (edges_in (l ++ x ∷ ready.taken)))
+              swaps = subst (λ l. AreOneButForSwaps v p (edges_in t.first) (edges_in (l ++ x ∷ ready.taken)))
                   left_is
-                  (swaps_on v p (edges_in k) (edges_in (numbers rest.edges.items ++ ready.taken))
+                  (swaps_on v p (edges_in t.first) (edges_in (numbers rest.edges.items ++ ready.taken))
                   (edges_in (left ++ x ∷ ready.taken)) ready.swaps swaps);
-              leads = subst (λ l. Leads p v w k fs (x ∷ ready.taken) l number next) left_is leads;
+              leads = subst (λ l. Leads t (x ∷ ready.taken) l number next) left_is leads;
               all = omega (arith, all, is);
               few = ready.few;
             }
@@ -247,9 +256,9 @@ module _ (p : Plan) (v w : Version) (k : Numbered) (fs : List Edge) where
   module _ (sought : Sought) (taken left : Numbered) (n : ℕ) (next : List Edge)
       (is : sought.number ≡ n + 1) (missing : IsMissing sought.edge left)
       (own : IsFirstOf sought.edge.driver left sought.own)
-      (leads : Leads p v w k fs taken left n (sought.edge ∷ next)) where
+      (leads : Leads t taken left n (sought.edge ∷ next)) where
     pub missing_sure : (ended over : Bool) → ended ≡ true
-        → IsSure p v w k fs ended over (Differs sought.number sought.edge Missing sought.own)
+        → IsSure t ended over (Differs sought.number sought.edge Missing sought.own)
     missing_sure ended over ends more later first second =
         leads more later (Differs sought.number sought.edge Missing sought.own) (inl (
           Missing,
@@ -259,7 +268,7 @@ module _ (p : Plan) (v w : Version) (k : Numbered) (fs : List Edge) where
           ap (λ m. Differs m sought.edge Missing sought.own) is,
         ))
 
-    pub is_sought : most_passed < length left → IsSought p v w k fs sought
+    pub is_sought : most_passed < length left → IsSought t sought
     is_sought many = record {
       taken = taken;
       left = left;
@@ -272,12 +281,12 @@ module _ (p : Plan) (v w : Version) (k : Numbered) (fs : List Edge) where
       many = many;
     }
 
-  module _ (sought : Sought) (seeks : IsSought p v w k fs sought) (m : ℕ) (a : Edge)
+  module _ (sought : Sought) (seeks : IsSought t sought) (m : ℕ) (a : Edge)
       (own : Option (ℕ × Edge))
       (firsts : (left : Numbered) → IsFirstOf sought.edge.driver left sought.own
       → IsFirstOf sought.edge.driver ((m, a) ∷ left) own) where
     pub sought_far : (ended over : Bool) → a ≡ sought.edge
-        → IsSure p v w ((m, a) ∷ k) fs ended over (Differs sought.number sought.edge (Stops Far) own)
+        → IsSure (with_first t (m, a)) ended over (Differs sought.number sought.edge (Stops Far) own)
     sought_far ended over same more later first second =
         let left = (m, a) ∷ seeks.left in
         leads_more seeks.taken seeks.left seeks.count (sought.edge ∷ seeks.next) seeks.leads (m, a)
@@ -300,7 +309,7 @@ module _ (p : Plan) (v w : Version) (k : Numbered) (fs : List Edge) where
         ))
 
     pub sought_on : a ≢ sought.edge
-        → IsSought p v w ((m, a) ∷ k) fs
+        → IsSought (with_first t (m, a))
         (record { number = sought.number; edge = sought.edge; own = own })
     sought_on other =
         let many = seeks.many in
@@ -316,8 +325,8 @@ module _ (p : Plan) (v w : Version) (k : Numbered) (fs : List Edge) where
           many = omega (arith, many);
         }
 
-  pub sought_later : (sought : Sought) (a : Edge) → IsSought p v w k fs sought
-      → IsSought p v w k (fs ++ a ∷ []) sought
+  pub sought_later : (sought : Sought) (a : Edge) → IsSought t sought
+      → IsSought (with_second t a) sought
   sought_later sought a seeks = record {
     taken = seeks.taken;
     left = seeks.left;
@@ -332,32 +341,32 @@ module _ (p : Plan) (v w : Version) (k : Numbered) (fs : List Edge) where
 
   -- ---- more edges while all came to the front
 
-  module _ (next : List Edge) (rest : Rest) (n : ℕ) (ready : IsOpen p v w k fs next rest n) where
-    pub open_more : (m : ℕ) (a : Edge) (after : Rest) → IsLegal v p (a ∷ edges_in k)
+  module _ (next : List Edge) (rest : Rest) (n : ℕ) (ready : IsOpen t next rest n) where
+    pub open_more : (m : ℕ) (a : Edge) (after : Rest) → IsLegal v p (a ∷ edges_in t.first)
         → numbers after.edges.items ≡ (m, a) ∷ numbers rest.edges.items
-        → after.behind ≡ rest.behind → IsOpen p v w ((m, a) ∷ k) fs next after n
+        → after.behind ≡ rest.behind → IsOpen (with_first t (m, a)) next after n
     open_more m a after legal is same =
-        let swaps = swaps_under v p a (edges_in k)
+        let swaps = swaps_under v p a (edges_in t.first)
         (edges_in (numbers rest.edges.items ++ ready.taken)) ready.swaps in
         let left : (m, a) ∷ numbers rest.edges.items ≡ numbers after.edges.items = sym is in
         record {
           taken = ready.taken;
           state = subst (IsStateOf v p (edges_in ready.taken)) (sym same) ready.state;
           legal = subst (λ l. IsLegal v p (edges_in (l ++ ready.taken))) left
-              (same_by_swaps v p (a ∷ edges_in k)
+              (same_by_swaps v p (a ∷ edges_in t.first)
               (a ∷ edges_in (numbers rest.edges.items ++ ready.taken)) ready.state.accepted legal swaps).legal;
-          swaps = subst (λ l. AreOneButForSwaps v p (a ∷ edges_in k) (edges_in (l ++ ready.taken))) left swaps;
-          leads = subst (λ l. Leads p v w ((m, a) ∷ k) fs ready.taken l n next) left
+          swaps = subst (λ l. AreOneButForSwaps v p (a ∷ edges_in t.first) (edges_in (l ++ ready.taken))) left swaps;
+          leads = subst (λ l. Leads (with_first t (m, a)) ready.taken l n next) left
               (leads_more ready.taken (numbers rest.edges.items) n next ready.leads (m, a));
           all = ready.all;
           few = ready.few;
         }
 
-    pub open_later : (e : Edge) → length fs + 1 < 2 ^ 64
-        → IsOpen p v w k (fs ++ e ∷ []) (next ++ e ∷ []) rest n
+    pub open_later : (e : Edge) → length t.second + 1 < 2 ^ 64
+        → IsOpen (with_second t e) (next ++ e ∷ []) rest n
     open_later e room =
         let all = ready.all in
-        let one = length-append fs (e ∷ []) in
+        let one = length-append t.second (e ∷ []) in
         let more = length-append next (e ∷ []) in
         record {
           taken = ready.taken;
@@ -371,11 +380,11 @@ module _ (p : Plan) (v w : Version) (k : Numbered) (fs : List Edge) where
 
   -- ---- the second trace is over, and nothing of it waits
 
-  module _ (next : List Edge) (rest : Rest) (n : ℕ) (ready : IsOpen p v w k fs next rest n)
+  module _ (next : List Edge) (rest : Rest) (n : ℕ) (ready : IsOpen t next rest n)
       (idle : next ≡ []) where
     leads_end : (more : Numbered) (later : List Edge) (found : Comparison) → later ≡ []
         → IsOver n (more ++ numbers rest.edges.items) found
-        → IsOutcome p v w (more ++ k) (fs ++ later) found
+        → IsOutcomeWith t more later found
     leads_end more later found last over =
         let end : [] ≡ next ++ later = sym (ap (λ l. l ++ later) idle ∙ last) in
         ready.leads more later found
@@ -393,22 +402,22 @@ module _ (p : Plan) (v w : Version) (k : Numbered) (fs : List Edge) where
       )
 
       pub left_sure : (ended over : Bool) → over ≡ true
-          → IsSure p v w k fs ended over (Leaves x.number x.edge)
+          → IsSure t ended over (Leaves x.number x.edge)
       left_sure ended over ends more later first second =
           leads_end more later (Leaves x.number x.edge) (second ends) (left_over more)
 
-      pub left_found : IsOutcome p v w k fs (Leaves x.number x.edge)
-      left_found = subst (λ l. IsOutcome p v w k l (Leaves x.number x.edge)) (append-nil fs)
+      pub left_found : IsOutcomeOf t (Leaves x.number x.edge)
+      left_found = subst (λ l. IsOutcomeOf (record t { second = l }) (Leaves x.number x.edge)) (append-nil t.second)
           (leads_end [] [] (Leaves x.number x.edge) refl (left_over []))
 
-    pub same_found : rest.edges.items ≡ [] → IsOutcome p v w k fs (Same n)
-    same_found none = subst (λ l. IsOutcome p v w k l (Same n)) (append-nil fs)
+    pub same_found : rest.edges.items ≡ [] → IsOutcomeOf t (Same n)
+    same_found none = subst (λ l. IsOutcomeOf (record t { second = l }) (Same n)) (append-nil t.second)
         (leads_end [] [] (Same n) refl (inl (ap numbers none, refl)))
 
-  pub sure_found : (found : Comparison) (ended over : Bool) → IsSure p v w k fs ended over found
-      → IsOutcome p v w k fs found
+  pub sure_found : (found : Comparison) (ended over : Bool) → IsSure t ended over found
+      → IsOutcomeOf t found
   sure_found found ended over sure =
-      subst (λ l. IsOutcome p v w k l found) (append-nil fs) (sure [] [] (λ is. refl) (λ is. refl))
+      subst (λ l. IsOutcomeOf (record t { second = l }) found) (append-nil t.second) (sure [] [] (λ is. refl) (λ is. refl))
 
 -- ---- results of calls
 

@@ -14,17 +14,21 @@ use Rattle.vme_same.specs.declared.matching.Matching.{Matching}
 use Rattle.vme_same.specs.declared.progress.Pairing.{Pairing}
 use Rattle.vme_same.specs.declared.sides.Side.{Side}
 use Rattle.vme_same.specs.Comparing.{IsComparison, IsFound, IsOutcome}
-use Rattle.vme_same.specs.Kept.{IsGoing, IsSide, OfGoing, Runs}
+use Rattle.vme_same.specs.Kept.{GoesOn, IsGoing, IsSide, Runs, Traces, traces_of, with_first, with_second}
 
 module _ (p : Plan) (v w : Version) (es fs : List Edge) where
+  abbrev accepted : Traces
+  accepted = traces_of p v w (numbered (bench p v) es) fs
+
   -- the next edge of the first trace
   pub runs_first : (over : Bool) (e : Edge) (old : Matching) (side : Side) (pairing : Pairing)
       → Runs p v w es false fs over old → IsSide p v (es ++ e ∷ []) side
       → (side.refusal ≡ None → old.first.refusal ≡ None)
       → (side.refusal ≡ None
       → numbered (bench p v) (es ++ e ∷ []) ≡ (side.judged, e) ∷ numbered (bench p v) es)
-      → OfGoing old.pairing (λ q a b k gs. old.pairing.has_ended ≡ false
-      → IsLegal a q (e ∷ edges_in k) → IsGoing q a b ((side.judged, e) ∷ k) gs pairing)
+      → ((t : Traces) → IsGoing t old.pairing → old.pairing.has_ended ≡ false
+      → IsLegal t.first_version t.plan (e ∷ edges_in t.first)
+      → IsGoing (with_first t (side.judged, e)) pairing)
       → pairing.has_ended ≡ old.pairing.has_ended → pairing.is_over ≡ old.pairing.is_over
       → Runs p v w (es ++ e ∷ []) false fs over
       (record { first = side; second = old.second; pairing = pairing })
@@ -37,16 +41,16 @@ module _ (p : Plan) (v w : Version) (es fs : List Edge) where
         let more = next none in
         let legal : IsLegal v p (e ∷ edges_in (numbered (bench p v) es)) =
         subst (λ (k : Numbered). IsLegal v p (edges_in k)) more (is.unrefused none).state.legal in
-        subst (λ (k : Numbered). IsGoing p v w k fs pairing) (sym more)
-        (moves p v w (numbered (bench p v) es) fs (runs.going (before none) other) runs.first_ends legal);
+        subst (λ (k : Numbered). IsGoing (traces_of p v w k fs) pairing) (sym more)
+        (moves accepted (runs.going (before none) other) runs.first_ends legal);
   }
 
   -- the next edge of the second one
   pub runs_second : (ended : Bool) (e : Edge) (old : Matching) (side : Side) (pairing : Pairing)
       → Runs p v w es ended fs false old → IsSide p w (fs ++ e ∷ []) side
       → (side.refusal ≡ None → old.second.refusal ≡ None) → old.second.judged + 1 < 2 ^ 64
-      → OfGoing old.pairing (λ q a b k gs. old.pairing.is_over ≡ false
-      → length gs + 1 < 2 ^ 64 → IsGoing q a b k (gs ++ e ∷ []) pairing)
+      → ((t : Traces) → IsGoing t old.pairing → old.pairing.is_over ≡ false
+      → length t.second + 1 < 2 ^ 64 → IsGoing (with_second t e) pairing)
       → pairing.has_ended ≡ old.pairing.has_ended → pairing.is_over ≡ old.pairing.is_over
       → Runs p v w es ended (fs ++ e ∷ []) false
       (record { first = old.first; second = side; pairing = pairing })
@@ -57,14 +61,14 @@ module _ (p : Plan) (v w : Version) (es fs : List Edge) where
     second_ends = ends ∙ runs.second_ends;
     going = λ none other.
         let count = runs.second.judged in
-        moves p v w (numbered (bench p v) es) fs (runs.going none (before other)) runs.second_ends
+        moves accepted (runs.going none (before other)) runs.second_ends
         (omega (arith, count, room));
   }
 
   -- it goes on without more edges
   pub runs_on : (ended over first second : Bool) (old : Matching) (pairing : Pairing)
       → Runs p v w es ended fs over old
-      → OfGoing old.pairing (λ q a b k gs. IsGoing q a b k gs pairing)
+      → GoesOn old.pairing pairing
       → pairing.has_ended ≡ first → pairing.is_over ≡ second
       → Runs p v w es first fs second
       (record { first = old.first; second = old.second; pairing = pairing })
@@ -73,7 +77,7 @@ module _ (p : Plan) (v w : Version) (es fs : List Edge) where
     second = runs.second;
     first_ends = stays;
     second_ends = ends;
-    going = λ none other. moves p v w (numbered (bench p v) es) fs (runs.going none other);
+    going = λ none other. moves accepted (runs.going none other);
   }
 
   -- ---- what is found

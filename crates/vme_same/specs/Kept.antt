@@ -23,6 +23,41 @@ use Rattle.vme_same.specs.declared.rest.Rest.{Rest}
 use Rattle.vme_same.specs.declared.sides.Side.{Side}
 use Rattle.vme_same.specs.Comparing.{Compares, IsFirstOf, IsMissing, IsOutcome}
 
+-- ---- the edges that were taken in
+
+-- Two traces on a plan, as far as their edges were taken in, and none was refused: the edges of the
+-- first one with their numbers, the newest first, and those of the second one in their order.
+pub record Traces : Type 0 where
+  pub plan : Plan
+  pub first_version : Version
+  pub second_version : Version
+  pub first : Numbered
+  pub second : List Edge
+
+abbrev pub traces_of : Plan → Version → Version → Numbered → List Edge → Traces
+traces_of p v w k fs = record {
+  plan = p;
+  first_version = v;
+  second_version = w;
+  first = k;
+  second = fs;
+}
+
+-- with one more edge of the first trace, or of the second one
+abbrev pub with_first : Traces → ℕ × Edge → Traces
+with_first t x = record t { first = x ∷ t.first }
+
+abbrev pub with_second : Traces → Edge → Traces
+with_second t e = record t { second = t.second ++ e ∷ [] }
+
+-- what is found of them, or will be if these edges come, too
+abbrev pub IsOutcomeOf : Traces → Comparison → Type 0
+IsOutcomeOf t found = IsOutcome t.plan t.first_version t.second_version t.first t.second found
+
+abbrev pub IsOutcomeWith : Traces → Numbered → List Edge → Comparison → Type 0
+IsOutcomeWith t more later found =
+    IsOutcomeOf (record t { first = more ++ t.first; second = t.second ++ later }) found
+
 -- ---- a trace
 
 -- no edge of these was refused, and the bus is that behind them
@@ -59,30 +94,26 @@ edges_of xs = map (λ x. x.edge) xs
 -- ---- how far the traces were matched
 
 -- whatever comes, what is found from here on is what is found of all
-abbrev pub Leads :
-    Plan → Version → Version → Numbered → List Edge → Numbered → Numbered → ℕ → List Edge → Type 0
-Leads p v w k fs taken left n next =
+abbrev pub Leads : Traces → Numbered → Numbered → ℕ → List Edge → Type 0
+Leads t taken left n next =
     (more : Numbered) (later : List Edge) (found : Comparison)
-    → Compares v p taken (more ++ left) n (next ++ later) found
-    → IsOutcome p v w (more ++ k) (fs ++ later) found
+    → Compares t.first_version t.plan taken (more ++ left) n (next ++ later) found
+    → IsOutcomeWith t more later found
 
 -- So many edges of the second trace came to the front of the first one, of which the rest is left.
 -- These edges of the second trace come next.
-pub record IsOpen
-    (p : Plan) (v w : Version) (k : Numbered) (fs next : List Edge) (rest : Rest) (count : ℕ)
-    : Type 0 where
+pub record IsOpen (t : Traces) (next : List Edge) (rest : Rest) (count : ℕ) : Type 0 where
   pub taken : Numbered
-  pub state : IsStateOf v p (edges_in taken) rest.behind
-  pub legal : IsLegal v p (edges_in (numbers rest.edges.items ++ taken))
-  pub swaps : AreOneButForSwaps v p (edges_in k) (edges_in (numbers rest.edges.items ++ taken))
-  pub leads : Leads p v w k fs taken (numbers rest.edges.items) count next
-  pub all : count + length next ≡ length fs
-  pub few : length fs < 2 ^ 64
+  pub state : IsStateOf t.first_version t.plan (edges_in taken) rest.behind
+  pub legal : IsLegal t.first_version t.plan (edges_in (numbers rest.edges.items ++ taken))
+  pub swaps : AreOneButForSwaps t.first_version t.plan (edges_in t.first)
+      (edges_in (numbers rest.edges.items ++ taken))
+  pub leads : Leads t taken (numbers rest.edges.items) count next
+  pub all : count + length next ≡ length t.second
+  pub few : length t.second < 2 ^ 64
 
 -- this edge is sought, and more edges are left than it may pass
-pub record IsSought
-    (p : Plan) (v w : Version) (k : Numbered) (fs : List Edge) (sought : Sought)
-    : Type 0 where
+pub record IsSought (t : Traces) (sought : Sought) : Type 0 where
   pub taken : Numbered
   pub left : Numbered
   pub next : List Edge
@@ -90,39 +121,31 @@ pub record IsSought
   pub number : sought.number ≡ count + 1
   pub missing : IsMissing sought.edge left
   pub own : IsFirstOf sought.edge.driver left sought.own
-  pub leads : Leads p v w k fs taken left count (sought.edge ∷ next)
+  pub leads : Leads t taken left count (sought.edge ∷ next)
   pub many : most_passed < length left
 
 -- whatever comes, this is found; nothing more comes of a trace that has ended
-abbrev pub IsSure :
-    Plan → Version → Version → Numbered → List Edge → Bool → Bool → Comparison → Type 0
-IsSure p v w k fs ended over found =
+abbrev pub IsSure : Traces → Bool → Bool → Comparison → Type 0
+IsSure t ended over found =
     (more : Numbered) (later : List Edge) → (ended ≡ true → more ≡ [])
-    → (over ≡ true → later ≡ []) → IsOutcome p v w (more ++ k) (fs ++ later) found
+    → (over ≡ true → later ≡ []) → IsOutcomeWith t more later found
 
-abbrev pub GoesBy :
-    Plan → Version → Version → Numbered → List Edge → Bool → Bool → List Next → Rest → ℕ
-    → Progress → Type 0
-GoesBy p v w k fs ended over next rest n Open = IsOpen p v w k fs (edges_of next) rest n
-GoesBy p v w k fs ended over next rest n (Seeks sought) =
-    (ended ≡ false) × IsSought p v w k fs sought
-GoesBy p v w k fs ended over next rest n (Finds found) = IsSure p v w k fs ended over found
+abbrev pub GoesBy : Traces → Bool → Bool → List Next → Rest → ℕ → Progress → Type 0
+GoesBy t ended over next rest n Open = IsOpen t (edges_of next) rest n
+GoesBy t ended over next rest n (Seeks sought) = (ended ≡ false) × IsSought t sought
+GoesBy t ended over next rest n (Finds found) = IsSure t ended over found
 
-abbrev pub Goes :
-    Plan → Version → Version → Numbered → List Edge → Pairing → Progress → Type 0
-Goes p v w k fs now progress =
-    GoesBy p v w k fs now.has_ended now.is_over now.waiting.items now.rest now.taken progress
+abbrev pub Goes : Traces → Pairing → Progress → Type 0
+Goes t now progress =
+    GoesBy t now.has_ended now.is_over now.waiting.items now.rest now.taken progress
 
--- the edges k of the first trace and fs of the second one were taken in; none was refused
-abbrev pub IsGoing : Plan → Version → Version → Numbered → List Edge → Pairing → Type 0
-IsGoing p v w k fs now = Goes p v w k fs now now.progress
+-- the edges of these traces were taken in
+abbrev pub IsGoing : Traces → Pairing → Type 0
+IsGoing t now = Goes t now now.progress
 
--- what holds of all edges that were taken in
-abbrev pub OfGoing :
-    Pairing → (Plan → Version → Version → Numbered → List Edge → Type 0) → Type 0
-OfGoing now P =
-    (p : Plan) (v w : Version) (k : Numbered) (fs : List Edge)
-    → IsGoing p v w k fs now → P p v w k fs
+-- it goes on without more edges
+abbrev pub GoesOn : Pairing → Pairing → Type 0
+GoesOn old new = (t : Traces) → IsGoing t old → IsGoing t new
 
 -- more edges of the first trace are left than an edge may pass, or it has ended
 abbrev pub IsAmple : Pairing → Type 0
@@ -149,7 +172,7 @@ pub record Runs
   pub first_ends : now.pairing.has_ended ≡ ended
   pub second_ends : now.pairing.is_over ≡ over
   pub going : now.first.refusal ≡ None → now.second.refusal ≡ None
-      → IsGoing p v w (numbered (bench p v) es) fs now.pairing
+      → IsGoing (traces_of p v w (numbered (bench p v) es) fs) now.pairing
 
 abbrev pub Stands :
     Plan → Version → Version → List Edge → Bool → List Edge → Bool → Matching → Type 0

@@ -1,15 +1,13 @@
 //! The edges of two traces without a refused edge, matched one by one.
 ghost use Rattle.std.specs.Prelude.{◌≡◌, ◌+◌, ◌<◌, ◌≤◌, ◌^◌, ◌++◌, ◌∷◌, ◌&&◌, [], IfErr, IsTrue, List, OnOk, false, length, nat_le, not, true, ℕ};
 ghost use Rattle.vme_model.specs.declared.signals.Edge.{Edge as EdgeValue};
-ghost use Rattle.vme_model.specs.declared.signals.Version.{Version as VersionValue};
 ghost use Rattle.vme_model.specs.Numbered.{Numbered, edges_in};
-ghost use Rattle.vme_model.specs.Plan.{Plan as PlanValue};
 ghost use Rattle.vme_model.specs.Signals.{is_well_formed};
 ghost use Rattle.vme_model.specs.Verdict.{IsLegal};
 ghost use Rattle.vme_swaps.specs.Stops.{most_passed};
-ghost use Rattle.vme_same.specs.Comparing.{IsFirstOf, IsMissing, IsOutcome};
+ghost use Rattle.vme_same.specs.Comparing.{IsFirstOf, IsMissing};
 ghost use Rattle.vme_same.specs.Formed.{is_formed_found, is_formed_progress, is_formed_sought};
-ghost use Rattle.vme_same.specs.Kept.{Goes, IsAmple, IsAt, IsGoing, IsIdle, IsOpen, Leads, OfGoing, edges_of};
+ghost use Rattle.vme_same.specs.Kept.{Goes, GoesOn, IsAmple, IsAt, IsGoing, IsIdle, IsOpen, IsOutcomeOf, Leads, Traces, edges_of, traces_of, with_first, with_second};
 
 use crate::comparisons::{Comparison, Why};
 use crate::edges::Next;
@@ -40,7 +38,7 @@ fn begin(first: Version, second: Version) -> Progress
 impl Pairing {
     /// Before the first edge of either trace.
     pub(crate) fn new(alloc: Global, plan: &Plan, first: Version, second: Version) -> Pairing
-        ensures going { IsGoing plan.now first second [] [] result }
+        ensures going { IsGoing (traces_of plan.now first second [] []) result }
         ensures idle { IsIdle result }
         ensures ended { result.has_ended ≡ false }
         ensures over { result.is_over ≡ false }
@@ -68,12 +66,9 @@ impl Pairing {
     fn match_at(&mut self, number: u64, edge: &Edge, place: usize) -> Progress
         requires place { place < length self.old.rest.edges.items }
         requires formed { is_well_formed edge.now ≡ true }
-        ensures going { (p : PlanValue) (v w : VersionValue) (k : Numbered) (fs : List EdgeValue)
-            (at : IsAt edge.now place self.old.rest.edges.items)
-            → IsOpen p v w k fs (edge.now ∷ edges_of self.old.waiting.items) self.old.rest
-            self.old.taken
-            → number ≡ self.old.taken + 1 → place ≤ most_passed
-            → Goes p v w k fs self.new result }
+        ensures going { (t : Traces) (at : IsAt edge.now place self.old.rest.edges.items)
+            → IsOpen t (edge.now ∷ edges_of self.old.waiting.items) self.old.rest self.old.taken
+            → number ≡ self.old.taken + 1 → place ≤ most_passed → Goes t self.new result }
         ensures formed { is_formed_progress result ≡ true }
         ensures ended { self.new.has_ended ≡ self.old.has_ended }
         ensures over { self.new.is_over ≡ self.old.is_over }
@@ -98,13 +93,12 @@ impl Pairing {
     /// if the first trace has ended, and is sought otherwise.
     fn missing_or_sought(&self, sought: &Sought) -> Progress
         requires { is_formed_sought sought.now ≡ true }
-        ensures going { (p : PlanValue) (v w : VersionValue) (k : Numbered) (fs : List EdgeValue)
-            (taken left : Numbered) (n : ℕ) (next : List EdgeValue) → sought.now.number ≡ n + 1
-            → IsMissing sought.now.edge left
+        ensures going { (t : Traces) (taken left : Numbered) (n : ℕ) (next : List EdgeValue)
+            → sought.now.number ≡ n + 1 → IsMissing sought.now.edge left
             → IsFirstOf sought.now.edge.driver left sought.now.own
-            → Leads p v w k fs taken left n (sought.now.edge ∷ next)
+            → Leads t taken left n (sought.now.edge ∷ next)
             → (self.now.has_ended ≡ false → most_passed < length left)
-            → Goes p v w k fs self.now result }
+            → Goes t self.now result }
         ensures formed { is_formed_progress result ≡ true }
     {
         if self.has_ended {
@@ -122,10 +116,9 @@ impl Pairing {
     /// Finds the next edge of the second trace in what is left of the first one, and matches it.
     fn find_in_rest(&mut self, edge: &Edge) -> Progress
         requires { is_well_formed edge.now ≡ true }
-        ensures going { (p : PlanValue) (v w : VersionValue) (k : Numbered) (fs : List EdgeValue)
-            → IsOpen p v w k fs (edge.now ∷ edges_of self.old.waiting.items) self.old.rest
-            self.old.taken
-            → IsAmple self.old → Goes p v w k fs self.new result }
+        ensures going { (t : Traces)
+            → IsOpen t (edge.now ∷ edges_of self.old.waiting.items) self.old.rest self.old.taken
+            → IsAmple self.old → Goes t self.new result }
         ensures formed { is_formed_progress result ≡ true }
         ensures ended { self.new.has_ended ≡ self.old.has_ended }
         ensures over { self.new.is_over ≡ self.old.is_over }
@@ -169,7 +162,7 @@ impl Pairing {
     fn match_next(&mut self)
         requires open { self.old.progress ≡ Progress.Open }
         requires ample { IsAmple self.old }
-        ensures going { OfGoing self.old (λ p v w k fs. IsGoing p v w k fs self.new) }
+        ensures going { GoesOn self.old self.new }
         ensures fewer { 0 < length self.old.waiting.items
             → length self.new.waiting.items < length self.old.waiting.items }
         ensures ended { self.new.has_ended ≡ self.old.has_ended }
@@ -182,7 +175,7 @@ impl Pairing {
 
     /// Matches the edges of the second trace that wait, as far as it can.
     fn match_waiting(&mut self)
-        ensures going { OfGoing self.old (λ p v w k fs. IsGoing p v w k fs self.new) }
+        ensures going { GoesOn self.old self.new }
         ensures idle { IsIdle self.new }
         ensures ended { self.new.has_ended ≡ self.old.has_ended }
         ensures over { self.new.is_over ≡ self.old.is_over }
@@ -195,7 +188,7 @@ impl Pairing {
     /// If the second trace has ended, and all its edges came to the front, an edge that is left
     /// stays so.
     fn close(&mut self)
-        ensures going { OfGoing self.old (λ p v w k fs. IsGoing p v w k fs self.new) }
+        ensures going { GoesOn self.old self.new }
         ensures idle { IsIdle self.old → IsIdle self.new }
         ensures ended { self.new.has_ended ≡ self.old.has_ended }
         ensures over { self.new.is_over ≡ self.old.is_over }
@@ -215,7 +208,7 @@ impl Pairing {
 
     /// Goes on as far as it can.
     pub(crate) fn advance(&mut self)
-        ensures going { OfGoing self.old (λ p v w k fs. IsGoing p v w k fs self.new) }
+        ensures going { GoesOn self.old self.new }
         ensures idle { IsIdle self.new }
         ensures ended { self.new.has_ended ≡ self.old.has_ended }
         ensures over { self.new.is_over ≡ self.old.is_over }
@@ -229,9 +222,8 @@ impl Pairing {
     fn far_or_sought(&self, number: u64, edge: &Edge, sought: &Sought) -> Progress
         requires formed { is_well_formed edge.now ≡ true }
         requires sought { is_formed_sought sought.now ≡ true }
-        ensures going { (p : PlanValue) (v w : VersionValue) (k : Numbered) (fs : List EdgeValue)
-            → Goes p v w k fs self.now (Progress.Seeks sought.now)
-            → Goes p v w ((number, edge.now) ∷ k) fs self.now result }
+        ensures going { (t : Traces) → Goes t self.now (Progress.Seeks sought.now)
+            → Goes (with_first t (number, edge.now)) self.now result }
         ensures formed { is_formed_progress result ≡ true }
     {
         let own = sought.own_with(number, edge);
@@ -257,9 +249,10 @@ impl Pairing {
     /// X6.
     pub(crate) fn take_first(&mut self, number: u64, edge: &Edge) -> Result<(), Fault>
         requires { is_well_formed edge.now ≡ true }
-        ensures going { OnOk result (OfGoing self.old (λ p v w k fs. self.old.has_ended ≡ false
-            → IsLegal v p (edge.now ∷ edges_in k)
-            → IsGoing p v w ((number, edge.now) ∷ k) fs self.new)) }
+        ensures going { OnOk result ((t : Traces) → IsGoing t self.old
+            → self.old.has_ended ≡ false
+            → IsLegal t.first_version t.plan (edge.now ∷ edges_in t.first)
+            → IsGoing (with_first t (number, edge.now)) self.new) }
         ensures ended { self.new.has_ended ≡ self.old.has_ended }
         ensures over { self.new.is_over ≡ self.old.is_over }
         ensures fault { IfErr result (λ fault. fault ≡ Fault.Memory) }
@@ -280,8 +273,9 @@ impl Pairing {
     /// X6.
     pub(crate) fn take_second(&mut self, edge: &Edge) -> Result<(), Fault>
         requires { is_well_formed edge.now ≡ true }
-        ensures going { OnOk result (OfGoing self.old (λ p v w k fs. self.old.is_over ≡ false
-            → length fs + 1 < 2 ^ 64 → IsGoing p v w k (fs ++ edge.now ∷ []) self.new)) }
+        ensures going { OnOk result ((t : Traces) → IsGoing t self.old
+            → self.old.is_over ≡ false → length t.second + 1 < 2 ^ 64
+            → IsGoing (with_second t edge.now) self.new) }
         ensures ended { self.new.has_ended ≡ self.old.has_ended }
         ensures over { self.new.is_over ≡ self.old.is_over }
         ensures fault { IfErr result (λ fault. fault ≡ Fault.Memory) }
@@ -298,7 +292,7 @@ impl Pairing {
 
     /// Learns that the first trace has ended.
     pub(crate) fn end_first(&mut self)
-        ensures going { OfGoing self.old (λ p v w k fs. IsGoing p v w k fs self.new) }
+        ensures going { GoesOn self.old self.new }
         ensures ended { self.new.has_ended ≡ true }
         ensures over { self.new.is_over ≡ self.old.is_over }
     {
@@ -311,7 +305,7 @@ impl Pairing {
 
     /// Learns that the second trace has ended.
     pub(crate) fn end_second(&mut self)
-        ensures going { OfGoing self.old (λ p v w k fs. IsGoing p v w k fs self.new) }
+        ensures going { GoesOn self.old self.new }
         ensures ended { self.new.has_ended ≡ self.old.has_ended }
         ensures over { self.new.is_over ≡ true }
     {
@@ -320,8 +314,8 @@ impl Pairing {
 
     /// What is found of two traces that have ended.
     pub(crate) fn found(&self) -> Comparison
-        ensures found { OfGoing self.now (λ p v w k fs. IsIdle self.now
-            → self.now.has_ended ≡ true → self.now.is_over ≡ true → IsOutcome p v w k fs result) }
+        ensures found { (t : Traces) → IsGoing t self.now → IsIdle self.now
+            → self.now.has_ended ≡ true → self.now.is_over ≡ true → IsOutcomeOf t result }
         ensures formed { IsTrue (is_formed_found result) }
     {
         match self.progress {

@@ -5,8 +5,7 @@ use Rattle.vme_same.proofs.matching.Matching.close_first.Goals as goal
 pub returns-clause-stands : goal.returns-clause-stands
 returns-clause-stands c = λ p v w es fs over stands. (
   runs_on p v w es fs false over true over c.args.self.now c.advance.new.self stands.0
-      (λ q a b k gs going.
-      c.advance.ensures.going q a b k gs (c.end_first.ensures.going q a b k gs going))
+      (λ t going. c.advance.ensures.going t (c.end_first.ensures.going t going))
       (c.advance.ensures.ended ∙ c.end_first.ensures.ended)
       (c.advance.ensures.over ∙ c.end_first.ensures.over ∙ stands.0.second_ends),
   c.advance.ensures.idle,

@@ -1,5 +1,5 @@
 use Rattle.vme_same.proofs.progress.Pairing.advance.Goals as goal
 
 pub returns-clause-going : goal.returns-clause-going
-returns-clause-going c = λ p v w k fs going.
-    c.close.ensures.going p v w k fs (c.match_waiting.ensures.going p v w k fs going)
+returns-clause-going c = λ t going.
+    c.close.ensures.going t (c.match_waiting.ensures.going t going)

@@ -7,13 +7,13 @@ use Rattle.vme_same.proofs.Leading.{left_sure}
 use Rattle.vme_same.proofs.progress.Pairing.close.Goals as goal
 
 pub returns-in-Some-clause-going : goal.returns-in-Some-clause-going
-returns-in-Some-clause-going c = λ p v w k fs going.
+returns-in-Some-clause-going c = λ t going.
     let now = c.args.self.now in
-    let ready : IsOpen p v w k fs (edges_of now.waiting.items) now.rest now.taken = subst (Goes p v w k fs now) c.in-Open.is going in
+    let ready : IsOpen t (edges_of now.waiting.items) now.rest now.taken = subst (Goes t now) c.in-Open.is going in
     let over : now.is_over ≡ true = search rules in
     let none : length now.waiting.items ≡ 0 = grind (arith, nat_tests, common_steps) in
     let idle : now.waiting.items ≡ [] = nil_from_length now.waiting.items none in
     let some = c.in-Some.ensures.some in
-    subst (IsSure p v w k fs now.has_ended now.is_over) (sym c.leaves.ensures.found)
-    (left_sure p v w k fs (edges_of now.waiting.items) now.rest now.taken ready (ap edges_of idle)
+    subst (IsSure t now.has_ended now.is_over) (sym c.leaves.ensures.found)
+    (left_sure t (edges_of now.waiting.items) now.rest now.taken ready (ap edges_of idle)
     some.0 c.in-Some.left.now some.1 now.has_ended now.is_over over)

@@ -18,15 +18,15 @@ returns-else-is_same-clause-formed c =
     c.own_with-own.ensures.formed
 
 pub returns-then-is_same-clause-going : goal.returns-then-is_same-clause-going
-returns-then-is_same-clause-going c = λ p v w k fs seeks.
-    sought_far p v w k fs c.args.sought.now seeks.1 c.args.number c.args.edge.now
+returns-then-is_same-clause-going c = λ t seeks.
+    sought_far t c.args.sought.now seeks.1 c.args.number c.args.edge.now
     c.own_with-own.result c.own_with-own.ensures.own
     c.args.self.now.has_ended c.args.self.now.is_over (c.is_same.ensures.same c.if-is_same.true)
 
 pub returns-else-is_same-clause-going : goal.returns-else-is_same-clause-going
-returns-else-is_same-clause-going c = λ p v w k fs seeks. (
+returns-else-is_same-clause-going c = λ t seeks. (
   seeks.0,
-  sought_on p v w k fs c.args.sought.now seeks.1 c.args.number c.args.edge.now
+  sought_on t c.args.sought.now seeks.1 c.args.number c.args.edge.now
       c.own_with-own.result c.own_with-own.ensures.own
       (c.is_same.ensures.apart c.if-is_same.false),
 )
