@@ -4,6 +4,7 @@ ghost use Rattle.vme_model.specs.declared.signals.Edge.{Edge as EdgeValue};
 ghost use Rattle.vme_model.specs.declared.signals.Version.{Version as VersionValue};
 ghost use Rattle.vme_model.specs.Plan.{Plan as PlanValue};
 ghost use Rattle.vme_model.specs.Signals.{is_well_formed};
+ghost use Rattle.vme_trace.specs.declared.Fault.TheVariants.{Memory};
 ghost use Rattle.vme_reading.specs.Outcomes.{LentAsking};
 ghost use Rattle.vme_reading.specs.Streams.{ReadNothing, WroteNothing, streams};
 ghost use Rattle.vme_races.specs.Asked.{IsLineOf, PrintsWalkInput, WritesWalk};
@@ -48,7 +49,7 @@ impl AtEdge for Racing {
 
     ghost writes = { WritesWalk };
 
-    ghost fails = { λ fault. fault ≡ Fault.Memory };
+    ghost fails = { λ fault. fault ≡ Memory };
 
     fn begin(task: &Global, bus: Bus) -> Racing {
         Racing::new(*task, bus)

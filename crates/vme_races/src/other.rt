@@ -7,6 +7,7 @@ ghost use Rattle.vme_model.specs.Plan.{Plan as PlanValue};
 ghost use Rattle.vme_model.specs.Signals.{is_well_formed};
 ghost use Rattle.vme_model.specs.Text.{text};
 ghost use Rattle.vme_trace.specs.Writing.{AppendsFront};
+ghost use Rattle.vme_trace.specs.declared.Fault.TheVariants.{Memory};
 ghost use Rattle.vme_reading.specs.Readings.{ReadsInput, ReadsLent};
 ghost use Rattle.vme_reading.specs.Streams.{ReadNothing, WroteNothing, streams};
 ghost use Rattle.vme_races.specs.Listed.{AreListed, before_met};
@@ -96,7 +97,7 @@ impl AtEdge for Reordering {
 
     ghost writes = { WritesOrder };
 
-    ghost fails = { λ fault. fault ≡ Fault.Memory };
+    ghost fails = { λ fault. fault ≡ Memory };
 
     fn begin(task: &Global, bus: Bus) -> Reordering {
         Reordering {

@@ -1,6 +1,7 @@
 //! Shrinking a trace: few edges, and behind them an edge that is answered as before.
 ghost use Rattle.std.specs.Prelude.{◌≡◌, Some};
 ghost use Rattle.vme_model.specs.Verdict.{kept};
+ghost use Rattle.vme_trace.specs.declared.Fault.TheVariants.{Memory};
 ghost use Rattle.vme_reading.specs.Outcomes.{LentAsking, bench};
 ghost use Rattle.vme_reading.specs.Streams.{streams, ReadNothing, WroteNothing};
 ghost use Rattle.vme_shrink.specs.Shrinking.{ShrinksInput, WritesStory};
@@ -38,7 +39,7 @@ impl<P: StoryProgress + Copy + Drop> AtEdge for Shrinking<P> {
 
     ghost writes = { WritesStory };
 
-    ghost fails = { λ fault. fault ≡ Fault.Memory };
+    ghost fails = { λ fault. fault ≡ Memory };
 
     fn begin(task: &Search<P>, bus: Bus) -> Shrinking<P> {
         let front = Front::new(task.alloc, bus);
