@@ -1,7 +1,7 @@
 -- Every bus that keeps the rules is in a phase of the grants and BBSY*, one in which a bus can be
 -- that is running.
-use Rattle.std.proofs.Common.{◌≡◌, ◌⊎◌, ◌∙◌, refl, sym, ap, subst, ℕ, zero, suc, Bool, true, false, List, [], ◌∷◌, ◌<◌, ◌≤◌, arith, ⊎_elim}
-use Rattle.std.specs.Prelude.{◌==◌, ◌&&◌, ◌||◌, nat_le, not, Option, Some, None}
+use Rattle.std.proofs.Common.{◌≡◌, ◌∙◌, refl, sym, ℕ, Bool, true, false, List, [], ◌∷◌, ◌<◌, ◌≤◌, arith, ⊎_elim}
+use Rattle.std.specs.Prelude.{◌==◌, ◌&&◌, ◌||◌, not, Option}
 use Rattle.std.proofs.lemmas.Bool.Decides.{nat_tests}
 use Rattle.vme_model.specs.declared.sets.BusLevels.{BusLevels}
 use Rattle.vme_model.specs.declared.signals.Version.{Version}
@@ -16,7 +16,7 @@ use Rattle.vme_model.specs.Sets.{has_bus_level}
 use Rattle.vme_model.specs.Plan.{Plan}
 use Rattle.vme_model.specs.Accepted.{IsAccepted}
 use Rattle.vme_model.specs.GrantSafety.{IsAwaited, was_withdrawn}
-use Rattle.vme_model.specs.History.{drive, last_level as last_granted, line}
+use Rattle.vme_model.specs.History.{last_level as last_granted, line}
 use Rattle.vme_model.specs.Verdict.{IsLegal}
 use Rattle.vme_model.proofs.AllowedEdges.{all_passed}
 use Rattle.vme_model.proofs.Members.{member_of}
@@ -31,7 +31,7 @@ use Rattle.vme_standings.specs.GrantChains.{end_place, is_of_level}
 use Rattle.vme_standings.specs.LowSegments.{is_segment}
 use Rattle.vme_standings.specs.Phases.{has_phase, is_held, is_in_table}
 use Rattle.vme_standings.specs.InPhase.{AreAsked, AreShown, CoversGrants, InPhase, is_place_low}
-use Rattle.vme_standings.proofs.Tests.{both, never}
+use Rattle.vme_standings.proofs.Tests.{both}
 use Rattle.vme_standings.proofs.WhoDrives.{line_shows}
 use Rattle.vme_standings.proofs.GrantPlaces.{board_segment, end_last, from_one}
 use Rattle.vme_standings.proofs.PhaseSteps.{begins_idle, equal, few_some, last_few, other_in, past_granting, run}

@@ -149,6 +149,10 @@ bclr_is d wire.Irq r has is = absurd (no_interrupt (option_and_then (λ (b : Row
     no_interrupt (Some i) x = absurd (cc)
 bclr_is d w r has is = absurd (cc)
 
+-- while BBSY* is high no bus clear is due
+not_due : (a b c d : Bool) → b ≡ false → (((a && b) && c) && d) ≡ false
+not_due a b c d off = grind arith
+
 -- a holder is a board of the level last granted
 holder_level : (p : Plan) (k first n : ℕ) → last_level p (Held k first) ≡ Some n → is_of_level p n k ≡ true
 holder_level p k first n e = by_board (board p k) refl e
@@ -314,17 +318,8 @@ module _ (version : Version) (p : Plan) (ok : IsAccepted p) (pins : List Pin) (h
       -- it is due in the phase exactly if it is due on the bus
       due : (q : GrantPhase) → InPhase p h q → is_clear_due p requests q ≡ due_now
       due (Idle c) i = sym (not_due (is_pri p.arbiter) (line p h wire.Bbsy) _ higher (free_high version p ok h legal.1 (λ b. i.held b)))
-        where
-          not_due : (a b c d : Bool) → b ≡ false → (((a && b) && c) && d) ≡ false
-          not_due a b c d off = grind arith
       due (Granting c x) i = sym (not_due (is_pri p.arbiter) (line p h wire.Bbsy) _ higher (free_high version p ok h legal.1 (λ b. i.held b)))
-        where
-          not_due : (a b c d : Bool) → b ≡ false → (((a && b) && c) && d) ≡ false
-          not_due a b c d off = grind arith
       due (Expired c x) i = sym (not_due (is_pri p.arbiter) (line p h wire.Bbsy) _ higher (free_high version p ok h legal.1 (λ b. i.held b)))
-        where
-          not_due : (a b c d : Bool) → b ≡ false → (((a && b) && c) && d) ≡ false
-          not_due a b c d off = grind arith
       due (Held k x) i = by_first (nat_lt 0 x) refl
         where
           with_high : (a b c d o : Bool) → b ≡ true → c ≡ true → o ≡ d → ((a && o) && true) ≡ (((a && b) && c) && d)
