@@ -59,12 +59,7 @@ pub trait AtEdge: Drop {
         ensures fault { IfErr result fails };
 
     /// Writes what is asked for at the next edge, the n-th, and has the writer hand it on.
-    fn write<W: Write>(
-        &mut self,
-        n: u64,
-        edge: &Edge,
-        out: &mut W,
-    ) -> Result<Self::Answer, Fault>
+    fn write<W: Write>(&mut self, n: u64, edge: &Edge, out: &mut W) -> Result<Self::Answer, Fault>
         requires { IsTrue (is_well_formed edge.now) }
         ensures { (p : PlanValue) (v : VersionValue) (es : List EdgeValue)
             → stands p v es self.old → n ≡ length es + 1

@@ -18,8 +18,8 @@ mod totals;
 
 pub use boards::BoardTally;
 pub use summaries::{write_summary, write_sums};
+pub use summing::summary;
 pub use sums::Sums;
 pub use tallies::Tally;
-pub use summing::summary;
 pub use topics::Topic;
 pub use totals::add_trace;

@@ -4,9 +4,9 @@ use std::alloc::AllocError;
 use std::io::{self, ErrorKind, Read, Write};
 use std::process::Abort;
 use vme_check::check;
-use vme_replay::{joined, replay};
 use vme_model::Edge;
 use vme_reading::{EngineFault, LineForm, Status};
+use vme_replay::{joined, replay};
 use vme_trace::{Fault, Patient, Reader, flush, pump, put, read_piece};
 
 /// The most reads of one input.
