@@ -68,7 +68,7 @@ abbrev pub IsOfGrant : Edge → ℕ → ℕ → Type 0
 IsOfGrant e c zero = (e.driver ≡ Controller) × (e.wire ≡ Bg c)
 IsOfGrant e c (suc s) = (e.driver ≡ Slot (suc s)) × (e.wire ≡ BgOut)
 
--- the rows have a place of each probed segment of the grant chains
+-- the rows have places of probed segments alone: a segment without a probe is not among them
 abbrev pub HasProbes : Plan → List Pin → List SlotSet → Type 0
 HasProbes p pins probed =
     (c s : ℕ) → c < 4 → is_segment p c s ≡ true → pin_on p pins (grant_segment c s) ≡ None
