@@ -9,5 +9,5 @@ returns-clause-adds g c =
       h.0,
       h.1,
       h.2,
-      (h.3.0, h.3.1, (all.0, all.1, all.2, λ ts is. c.add.ensures ts is all.0 all.3, c.status_of.ensures ∙ ap status_with (c.refused.ensures all.0 all.3))),
+      (h.3.0, h.3.1, (all.0, all.1, all.2, λ ts is. c.add.ensures ts is all.0 all.3, c.of_refused.ensures ∙ ap status_with (c.refused.ensures all.0 all.3))),
     )
