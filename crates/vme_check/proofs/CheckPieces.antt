@@ -1,16 +1,15 @@
 -- A check of a trace: src/checks.rt.
-use Rattle.std.proofs.Common.{◌≡◌, inl, ℕ, ◌+◌, ◌≤◌, List, [], ◌∷◌, ◌++◌, length, Bool, true, false, Option, Some, None, Result, Ok, Err, refl, sym, ◌∙◌, ap, append_assoc, append-nil, subst, arith, reverse}
+use Rattle.std.proofs.Common.{◌≡◌, inl, ℕ, ◌+◌, ◌≤◌, List, [], ◌∷◌, ◌++◌, length, Bool, false, Option, Some, None, Result, Ok, Err, refl, sym, ◌∙◌, ap, append-nil, subst, arith, reverse}
 use Rattle.std.proofs.Math.ListN.{length-append}
-use mathlib.Core.List.{reverse-cons}
 use Rattle.std.proofs.lemmas.List.{length-reverse}
-use Rattle.std.specs.Prelude.{◌-◌, if◌then◌else◌, is_ok}
+use Rattle.std.specs.Prelude.{◌-◌}
 use Rattle.std.specs.Io.KnownBytes.{Appends, Keeps}
 use Rattle.vme_model.specs.declared.signals.Version.{Version}
 use Rattle.vme_model.specs.declared.signals.Edge.{Edge}
 use Rattle.vme_model.specs.declared.deliveries.Delivery.{Delivery}
 use Rattle.vme_model.specs.declared.refusals.Refused.{Refused}
 use Rattle.vme_model.specs.Plan.{Plan}
-use Rattle.vme_model.specs.Verdict.{State, Judgement, verdict, after, made, kept, IsLegal}
+use Rattle.vme_model.specs.Verdict.{State, Judgement, verdict, after, kept, IsLegal}
 use Rattle.vme_model.specs.Safe.{IsSafe}
 use Rattle.vme_model.specs.Deliveries.{delivery, with_delivery}
 use Rattle.vme_bus.specs.Answers.{answers}

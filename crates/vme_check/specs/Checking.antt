@@ -1,13 +1,9 @@
 -- What a check of a trace finds, writes and answers.
-use Rattle.std.specs.Prelude.{◌≡◌, ◌≤◌, ◌⊎◌, ◌+◌, ◌++◌, ◌∷◌, [], ℕ, List, length, reverse, codes, decimal, Option, Some, None, Result, Ok, Err}
-use Rattle.vme_model.specs.declared.refusals.Refused.{Refused}
-use Rattle.vme_model.specs.declared.signals.Version.{Version}
+use Rattle.std.specs.Prelude.{◌≡◌, ◌⊎◌, ◌+◌, ◌++◌, ◌∷◌, [], ℕ, List, length, codes, decimal, Some, None, Result, Ok, Err}
 use Rattle.vme_model.specs.declared.signals.Edge.{Edge}
 use Rattle.vme_model.specs.Plan.{Plan}
-use Rattle.vme_model.specs.Verdict.{State, Judgement, verdict, after, IsLegal}
-use Rattle.vme_model.specs.Safe.{IsSafe}
 use Rattle.vme_model.specs.Text.{Reading, read_of}
-use Rattle.vme_model.specs.Report.{verdict_text, trace_limit}
+use Rattle.vme_model.specs.Report.{verdict_text}
 use Rattle.vme_trace.specs.declared.Fault.{Fault}
 use Rattle.vme_trace.specs.declared.Fault.TheVariants.{Header, Line, TooLong, CutOff, Read, Memory, Failed, Write}
 use Rattle.vme_reading.specs.declared.Status.{Status}
@@ -15,8 +11,10 @@ use Rattle.vme_reading.specs.declared.Status.TheVariants.{Done, SomeRefused}
 use Rattle.vme_reading.specs.declared.EngineFault.TheVariants as fault
 use Rattle.vme_check.specs.declared.checks.Finding.{Finding}
 use Rattle.vme_check.specs.declared.checks.Finding.TheVariants.{Legal, Illegal}
+use Rattle.vme_reading.specs.LegalTraces.{IsLegalTrace}
+use Rattle.vme_reading.specs.Refusals.{IsUnrefused, refusal_of}
 use Rattle.vme_reading.specs.Streams.{Streams, IsInput, HasConsumed, IsReadOut, Wrote, WroteFront, WroteNothing}
-use Rattle.vme_reading.specs.Outcomes.{Answer, bench, HasFault, CanGoOn}
+use Rattle.vme_reading.specs.Outcomes.{Answer, HasFault, CanGoOn}
 
 -- What a check finds in a trace.
 abbrev pub IsFound : Plan → Reading → Streams → Finding → Type 0

@@ -166,3 +166,11 @@ comes_to_number n first now es i e r h at is count after_so answered = record {
   count = count ∙ ap (λ m. first.judged + m) (sym (length-take-le i es (omega arith)));
   asked = λ p v before was unasked. let one = after_so p v before was in (is ∙ ap (λ m. m + 1) one.judged, one);
 }
+
+version_by : (t : Bool) (b : State) (e : Edge) → (if t then made b e else b).version ≡ b.version
+version_by true b e = refl
+version_by false b e = refl
+
+pub kept_version : (b : State) (es : List Edge) → (kept b es).version ≡ b.version
+kept_version b [] = refl
+kept_version b (e ∷ es) = kept_version (after b e) es ∙ version_by (is_ok (verdict b e)) b e

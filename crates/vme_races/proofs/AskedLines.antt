@@ -29,7 +29,7 @@ use Rattle.vme_reading.specs.Steps.{Begins}
 use Rattle.vme_reading.specs.Streams.{Streams, streams, WroteNothing}
 use Rattle.vme_reading.specs.Waiting.{StopsWaiting}
 use Rattle.vme_following.proofs.FollowedEdges.{next_list}
-use Rattle.vme_following.proofs.Printed.{explains_end, slice_at}
+use Rattle.vme_following.proofs.PrintedBlocks.{explains_end, slice_at}
 use Rattle.vme_reading.proofs.ReadOn.{came_begins}
 use Rattle.vme_reading.proofs.Waits.{stops_unread, waits_now}
 use Rattle.vme_reading.proofs.WrittenLines.{appends_behind, front_after}

@@ -18,9 +18,9 @@ use Rattle.vme_following.specs.Explaining.{Explains, IsUnasked}
 use Rattle.vme_reading.specs.Waiting.{StopsWaiting}
 use Rattle.vme_races.specs.declared.other.OtherOrder.{OtherOrder}
 use Rattle.vme_races.specs.declared.other.OtherOrder.TheVariants.{Beyond, NoRace, Written}
-use Rattle.vme_races.specs.declared.walks.Stop.TheVariants.{Races}
+use Rattle.vme_swaps.specs.declared.stops.Stop.TheVariants.{Races}
 use Rattle.vme_races.specs.declared.walks.Walk.{Walk}
-use Rattle.vme_races.specs.Lines.{is_race}
+use Rattle.vme_swaps.specs.Stops.{is_race}
 use Rattle.vme_races.specs.Walks.{IsWalk}
 
 -- The other order of the race of an accepted edge e behind these edges of a trace: the accepted

@@ -15,7 +15,6 @@ ghost use Rattle.vme_races.specs.Listed.{AreListed, SeeksListed, WritesOrder, be
 ghost use Rattle.vme_races.specs.Other.{Orders};
 
 use crate::racing::Racing;
-use crate::walks::Stop;
 use crate::writing::write_trace;
 use std::alloc::Global;
 use std::io::{Read, Write};
@@ -23,6 +22,7 @@ use vme_bus::Bus;
 use vme_model::Edge;
 use vme_reading::{EngineFault, Judge, read};
 use vme_store::Code;
+use vme_swaps::Stop;
 use vme_trace::Fault;
 
 /// What came of the other order of a race.

@@ -1,5 +1,5 @@
 -- A whole trace whose edges are a legal list.
-use Rattle.std.specs.Prelude.{◌≡◌, ◌≤◌, List, length, reverse, Some, None}
+use Rattle.std.specs.Prelude.{◌≡◌, ◌≤◌, length, reverse, Some, None}
 use Rattle.vme_model.specs.declared.signals.Version.{Version}
 use Rattle.vme_model.specs.Plan.{Plan}
 use Rattle.vme_model.specs.Verdict.{IsLegal}

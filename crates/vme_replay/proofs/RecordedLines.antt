@@ -5,8 +5,8 @@ use Rattle.std.proofs.lemmas.List.{length-map, length-take-le, map-append, take-
 use Rattle.vme_model.specs.declared.deliveries.Delivery.{Delivery}
 use Rattle.vme_model.specs.declared.refusals.Refused.{Refused}
 use Rattle.vme_model.specs.declared.signals.Edge.{Edge}
-use Rattle.vme_model.specs.Verdict.{State, Judgement, verdict, after, kept}
-use Rattle.vme_model.specs.Deliveries.{answer, delivery, with_delivery}
+use Rattle.vme_model.specs.Verdict.{State, after, kept}
+use Rattle.vme_model.specs.Deliveries.{answer}
 use Rattle.vme_model.specs.Report.{verdict_line, verdict_lines}
 use Rattle.vme_bus.specs.declared.answers.AnswerRecord.{AnswerRecord}
 use Rattle.vme_bus.specs.Answers.{answer_of, answers, is_plain}

@@ -10,7 +10,7 @@ use Rattle.vme_bus.specs.States.{IsStateOf}
 use Rattle.vme_swaps.specs.Swaps.{AreOneButForSwaps}
 use Rattle.vme_reading.specs.Refusals.{first_refusal}
 use Rattle.vme_reading.specs.Outcomes.{bench}
-use Rattle.vme_races.specs.Walks.{most_passed}
+use Rattle.vme_swaps.specs.Stops.{most_passed}
 use Rattle.vme_same.specs.declared.comparisons.Comparison.{Comparison}
 use Rattle.vme_same.specs.declared.matching.Matching.{Matching}
 use Rattle.vme_same.specs.declared.edges.Next.{Next}

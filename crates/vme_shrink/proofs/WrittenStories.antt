@@ -34,7 +34,7 @@ use Rattle.vme_reading.specs.Steps.{Begins}
 use Rattle.vme_reading.specs.Streams.{Streams, streams, WroteNothing}
 use Rattle.vme_reading.specs.Waiting.{StopsWaiting}
 use Rattle.vme_reading.proofs.LegalTrace.{all_well_formed}
-use Rattle.vme_following.proofs.Printed.{explains_end, slice_at, refused_by, first_behind}
+use Rattle.vme_following.proofs.PrintedBlocks.{explains_end, slice_at, refused_by, first_behind}
 use Rattle.vme_reading.proofs.ReadOn.{came_begins}
 use Rattle.vme_reading.proofs.Waits.{stops_unread, waits_now}
 use Rattle.vme_reading.proofs.WrittenLines.{appends_behind, front_after}

@@ -1,6 +1,6 @@
 use Rattle.vme_reading.specs.Streams.{streams, ReadNothing, WroteNothing}
 use Rattle.vme_following.specs.Explaining.{ExplainsInput}
-use Rattle.vme_following.proofs.Printed.{lent_known}
+use Rattle.vme_following.proofs.PrintedBlocks.{lent_known}
 use Rattle.vme_following.proofs.explains.explain.Goals as goal
 
 pub returns : goal.returns

@@ -1,6 +1,6 @@
 use Rattle.vme_reading.specs.Streams.{streams, ReadNothing, WroteNothing}
 use Rattle.vme_show.specs.Showing.{ShowsInput}
-use Rattle.vme_following.proofs.Printed.{lent_known}
+use Rattle.vme_following.proofs.PrintedBlocks.{lent_known}
 use Rattle.vme_show.proofs.shows.show.Goals as goal
 
 pub returns : goal.returns

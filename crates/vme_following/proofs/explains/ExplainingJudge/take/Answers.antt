@@ -1,7 +1,7 @@
 use Rattle.std.proofs.Common.{◌≡◌, ◌++◌, Ok, false, rules}
 use Rattle.std.proofs.lemmas.Result.{err_from_is_err_and}
 use Rattle.std.proofs.KnownBytes.{Keeps-refl}
-use Rattle.vme_following.proofs.Printed.{explains_now, explains_cut, explains_end, explains_legal, explains_legal_cut, explains_stop, formed_for, none_of, room_for, unasked_by}
+use Rattle.vme_following.proofs.PrintedBlocks.{explains_now, explains_cut, explains_end, explains_legal, explains_legal_cut, explains_stop, formed_for, none_of, room_for, unasked_by}
 use Rattle.vme_following.proofs.explains.ExplainingJudge.take.Goals as goal
 
 pub write_explained-requires-clause-room : goal.write_explained-requires-clause-room

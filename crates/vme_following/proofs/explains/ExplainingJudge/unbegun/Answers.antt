@@ -1,4 +1,4 @@
-use Rattle.vme_following.proofs.Printed.{explains_unbegun}
+use Rattle.vme_following.proofs.PrintedBlocks.{explains_unbegun}
 use Rattle.vme_following.proofs.explains.ExplainingJudge.unbegun.Goals as goal
 
 pub returns : goal.returns

@@ -1,6 +1,6 @@
 use Rattle.std.proofs.Common.{refl}
 use Rattle.std.proofs.KnownBytes.{Keeps-refl}
-use Rattle.vme_following.proofs.Printed.{not_before_first}
+use Rattle.vme_following.proofs.PrintedBlocks.{not_before_first}
 use Rattle.vme_following.proofs.states.StatingJudge.begin.Goals as goal
 
 pub returns-clause-stands : goal.returns-clause-stands

@@ -1,7 +1,7 @@
 use Rattle.std.proofs.Common.{◌≡◌, Ok, false, rules}
 use Rattle.std.proofs.lemmas.Result.{err_from_is_err_and}
 use Rattle.std.proofs.KnownBytes.{Keeps-refl}
-use Rattle.vme_following.proofs.Printed.{not_before, states_beyond, states_cut, states_end, states_end_cut, states_now, states_stop}
+use Rattle.vme_following.proofs.PrintedBlocks.{not_before, states_beyond, states_cut, states_end, states_end_cut, states_now, states_stop}
 use Rattle.vme_following.proofs.states.StatingJudge.take.Goals as goal
 
 pub returns-in_err-write_place-in-Some-clause-takes : goal.returns-in_err-write_place-in-Some-clause-takes

@@ -1,4 +1,4 @@
-use Rattle.vme_following.proofs.Printed.{states_unbegun}
+use Rattle.vme_following.proofs.PrintedBlocks.{states_unbegun}
 use Rattle.vme_following.proofs.states.StatingJudge.unbegun.Goals as goal
 
 pub returns : goal.returns
