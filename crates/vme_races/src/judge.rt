@@ -32,12 +32,7 @@ struct Reporting {
 }
 
 /// Writes the line of the n-th edge, which was taken in, if it is accepted and races.
-fn write_taken<W: Write>(
-    n: u64,
-    edge: &Edge,
-    stop: Option<Stop>,
-    out: &mut W,
-) -> Result<(), Fault>
+fn write_taken<W: Write>(n: u64, edge: &Edge, stop: Option<Stop>, out: &mut W) -> Result<(), Fault>
     requires well_formed { IsTrue (is_well_formed edge.now) }
     requires met { IfSome stop (λ s. IsTrue (is_formed s)) }
     ensures ok { OnOk result (Appends (W.contents out.old) (W.contents out.new)

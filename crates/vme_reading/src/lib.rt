@@ -4,6 +4,7 @@
 //! It is generic over the reader, the writer and the judge. `specs/Outcomes.antt` says what an
 //! engine over it leaves behind and answers.
 #![tactic(auto)]
+
 ghost use Rattle.std.specs.Prelude.{◌≡◌};
 ghost use Rattle.vme_reading.specs.Outcomes.{status_with};
 

@@ -10,7 +10,7 @@ ghost use Rattle.vme_trace.specs.declared.Fault.{Fault as FaultValue};
 ghost use Rattle.vme_reading.specs.Streams.{streams, ReadNothing, WroteNothing};
 ghost use Rattle.vme_reading.specs.Outcomes.{bench};
 ghost use Rattle.vme_reading.specs.Readings.{ReadsInput, ReadsLent};
-ghost use Rattle.vme_reading.specs.Seeking.{IsUnasked, SeeksEdge};
+ghost use Rattle.vme_reading.specs.Seeking.{SeeksEdge};
 ghost use Rattle.vme_reading.specs.Sought.{HasPassed, Meets, Seeks, ended};
 
 use crate::EngineFault;
@@ -59,12 +59,7 @@ pub trait AtEdge: Drop {
         ensures fault { IfErr result fails };
 
     /// Writes what is asked for at the next edge, the n-th, and has the writer hand it on.
-    fn write<W: Write>(
-        &mut self,
-        n: u64,
-        edge: &Edge,
-        out: &mut W,
-    ) -> Result<Self::Answer, Fault>
+    fn write<W: Write>(&mut self, n: u64, edge: &Edge, out: &mut W) -> Result<Self::Answer, Fault>
         requires { IsTrue (is_well_formed edge.now) }
         ensures { (p : PlanValue) (v : VersionValue) (es : List EdgeValue)
             → stands p v es self.old → n ≡ length es + 1
