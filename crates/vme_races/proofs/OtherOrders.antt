@@ -15,12 +15,12 @@ use Rattle.vme_reading.specs.Outcomes.{bench}
 use Rattle.vme_reading.specs.declared.EngineFault.{EngineFault}
 use Rattle.vme_reading.specs.declared.EngineFault.TheVariants as fault
 use Rattle.vme_reading.specs.declared.seeking.Found.{Found}
-use Rattle.vme_reading.specs.declared.seeking.Found.TheVariants.{At, Legal}
+use Rattle.vme_reading.specs.declared.seeking.Found.TheVariants.{At}
 use Rattle.vme_reading.specs.declared.seeking.Found.TheVariants as found
 use Rattle.vme_reading.specs.Readings.{ReadsInput, ReadsLent}
 use Rattle.vme_reading.specs.Seeking.{SeeksEdge}
 use Rattle.vme_reading.specs.Streams.{Streams}
-use Rattle.vme_following.proofs.FollowedEdges.{edges_on}
+use Rattle.vme_following.proofs.FollowedEdges.{edges_on, kept_version}
 use Rattle.vme_races.specs.declared.other.OtherOrder.{OtherOrder}
 use Rattle.vme_races.specs.declared.other.OtherOrder.TheVariants.{Beyond, NoRace, Written}
 use Rattle.vme_races.specs.declared.racing.Racing.{Racing}
@@ -31,7 +31,6 @@ use Rattle.vme_swaps.specs.Stops.{is_race}
 use Rattle.vme_races.specs.Listed.{AreListed, before_met}
 use Rattle.vme_races.specs.Other.{HasNoRace, IsOtherOrder, Orders, WritesOrder}
 use Rattle.vme_races.specs.Walks.{IsWalk, Stops}
-use Rattle.vme_following.proofs.FollowedEdges.{kept_version}
 
 -- ---- the edge that is met
 
@@ -127,29 +126,15 @@ module _ (p : Plan) (v : Version) (before : List Edge) (e : Edge) (racing : Raci
 -- ---- what is answered
 
 module _ (edge : ℕ) (text : List ℕ) (nothing : Type 0) (s : Streams) where
-  abbrev Sought : Result (Found OtherOrder) EngineFault → Type 0
+  abbrev pub Sought : Result (Found OtherOrder) EngineFault → Type 0
   Sought r =
       ReadsLent text nothing
       (λ p. ReadsInput (SeeksEdge (WritesOrder p) (λ g. g ≡ Memory) (Some edge) p) s) r
 
-  abbrev Ordered : Result OtherOrder EngineFault → Type 0
+  abbrev pub Ordered : Result OtherOrder EngineFault → Type 0
   Ordered r = ReadsLent text nothing (λ p. ReadsInput (Orders edge p) s) r
 
   pub orders_at : (order : OtherOrder) → Sought (Ok (At order)) → Ordered (Ok order)
   orders_at Written h = h
   orders_at NoRace h = h
   orders_at (Beyond n) h = absurd h.3.2.holds
-
-  pub orders_beyond : (n : ℕ) → Sought (Ok (found.Beyond n)) → Ordered (Ok (Beyond n))
-  orders_beyond n h = h
-
-  pub orders_legal : (n : ℕ) → Sought (Ok (Legal n)) → Ordered (Ok (Beyond n))
-  orders_legal n h = absurd (let none = h.3.2.0.none in cc)
-
-  pub orders_fault : (f : EngineFault) → Sought (Err f) → Ordered (Err f)
-  orders_fault fault.TooLong h = h
-  orders_fault (fault.Scenario e) h = h
-  orders_fault (fault.Trace f) h = h
-  orders_fault fault.CannotRead h = h
-  orders_fault fault.NoMemory h = h
-  orders_fault (fault.Beyond n) h = h

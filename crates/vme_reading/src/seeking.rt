@@ -10,7 +10,7 @@ ghost use Rattle.vme_trace.specs.declared.Fault.{Fault as FaultValue};
 ghost use Rattle.vme_reading.specs.Streams.{streams, ReadNothing, WroteNothing};
 ghost use Rattle.vme_reading.specs.Outcomes.{bench};
 ghost use Rattle.vme_reading.specs.Readings.{ReadsInput, ReadsLent};
-ghost use Rattle.vme_reading.specs.Seeking.{IsUnasked, SeeksEdge};
+ghost use Rattle.vme_reading.specs.Seeking.{SeeksEdge};
 ghost use Rattle.vme_reading.specs.Sought.{HasPassed, Meets, Seeks, ended};
 
 use crate::EngineFault;

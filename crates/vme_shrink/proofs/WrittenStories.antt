@@ -1,5 +1,5 @@
 -- What is written of a trace.
-use Rattle.std.proofs.Common.{◌≡◌, is_ok, if◌then◌else◌, ◌++◌, ◌∷◌, [], ℕ, Bool, false, List, All, IsTrue, Option, Some, None, Err, reverse, sym, ◌∙◌, ap, subst}
+use Rattle.std.proofs.Common.{◌≡◌, ◌++◌, ◌∷◌, [], ℕ, List, All, IsTrue, Option, Some, Err, reverse, sym, ◌∙◌, ap, subst}
 use mathlib.Core.List.{reverse-reverse}
 use Rattle.vme_model.specs.declared.signals.Edge.{Edge}
 use Rattle.vme_model.specs.declared.signals.Version.{Version}
@@ -8,7 +8,7 @@ use Rattle.vme_model.specs.Plan.{Plan}
 use Rattle.vme_model.specs.Report.{at_power_up, trace_limit}
 use Rattle.vme_model.specs.Signals.{is_well_formed}
 use Rattle.vme_model.specs.Text.{text}
-use Rattle.vme_model.specs.Verdict.{State, after, kept, made, verdict}
+use Rattle.vme_model.specs.Verdict.{State, after, kept}
 use Rattle.vme_trace.specs.declared.Fault.{Fault}
 use Rattle.vme_trace.specs.declared.Fault.TheVariants.{Write}
 use Rattle.vme_trace.specs.Writing.{AppendsFront}
@@ -75,17 +75,7 @@ pub front_next : (p : Plan) (v : Version) (es : List Edge) (e : Edge) (old now :
 front_next p v es e old now is next =
     next ∙ ap (λ (s : State). after s e) is ∙ sym (kept_append (bench p v) es (e ∷ []))
 
--- a refused edge leaves the bus as it was
-pub front_stays : (p : Plan) (v : Version) (es : List Edge) (e : Edge) (old now : State)
-    → IsFront p v es old → now ≡ after old e → is_ok (verdict old e) ≡ false → IsFront p v es now
-front_stays p v es e old now is next refused =
-    next ∙ ap (λ (t : Bool). if t then made old e else old) refused ∙ is
-
 -- the front of a trace under way
 pub front_of : (p : Plan) (v : Version) (es : List Edge) (o : Option State) (front : State)
     → o ≡ Some front → o ≡ Some (kept (bench p v) es) → IsFront p v es front
 front_of p v es o front some is = let same = sym some ∙ is in cc
-
-pub no_front : (p : Plan) (v : Version) (es : List Edge) (o : Option State)
-    → o ≡ None → o ≡ Some (kept (bench p v) es) → ⊥
-no_front p v es o none is = let same = sym none ∙ is in absurd cc

@@ -1,6 +1,6 @@
-use Rattle.std.proofs.Common.{◌≡◌, ◌∙◌, ◌++◌, ◌∷◌, [], All, IsTrue, None, Ok, ap, false, is_ok, rules, subst, sym, true}
+use Rattle.std.proofs.Common.{◌≡◌, ◌∙◌, ◌++◌, ◌∷◌, [], All, IsTrue, None, Ok, ap, is_ok, rules, subst, sym, true}
 use Rattle.vme_model.specs.Signals.{is_well_formed}
-use Rattle.vme_model.specs.Verdict.{State, verdict}
+use Rattle.vme_model.specs.Verdict.{verdict}
 use Rattle.vme_races.proofs.ListedEdges.{listed_more, listed_same, pushed_formed}
 use Rattle.vme_races.proofs.other.ReorderingAtEdge.pass.Goals as goal
 
