@@ -69,9 +69,9 @@ at_power_up p st is = record {
   segments = λ s there. absurd (never (has st.low.acknowledge s) there (is.low Iack s));
 }
 
-pub on_a_running_bus : (p : Plan) (probed : Probed) (probes : List Probe) (lines : Levels) (low : Segments) (st : Standings) → HoldsProbed true probes low
-    → is_line_left_low lines line.DataStrobe ≡ false → Runs p probed lines low st → FitsTogether p st
-on_a_running_bus p probed probes lines low st holds high is = record {
+pub on_a_running_bus : (p : Plan) (probed : Probed) (probes : List Probe) (lines : Levels) (low : Segments) (st : Standings) → Runs p probed lines low st
+    → HoldsProbed true probes low → is_line_left_low lines line.DataStrobe ≡ false → FitsTogether p st
+on_a_running_bus p probed probes lines low st is holds high = record {
   strobed = λ falls. absurd (never (is_left_low st line.DataStrobe) falls (ap (λ l. is_line_left_low l line.DataStrobe) is.lines_are ∙ high));
   addressed = λ s there. absurd (never (has st.addressers s) there (is.addressers s));
   ends = λ s from to there. absurd (never (has st.fronts.ends s) there (is.fronts.ends s));

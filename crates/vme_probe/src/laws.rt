@@ -50,20 +50,25 @@ pub fn others_cannot_go_on_with_a_cycle()
         → is_of_a_cycle c.signal ≡ true → AreOthersHindered p probed.version st c may }
 {}
 
-/// What is known of a cycle fits together at power-up and on a running bus, and stays so with the
-/// edges that no probe sees, and behind each change that somebody may have made.
-#[tactic(auto, using(
-    crate::proofs::Fitting::at_power_up,
-    crate::proofs::Fitting::on_a_running_bus,
-    crate::proofs::Fitting::with_hidden,
-    crate::proofs::Fitting::behind
-))]
-pub fn what_is_known_of_a_cycle_fits_together()
-    ensures power_up { (p : Plan) (st : Standings) → IsPowerUp p st → FitsTogether p st }
-    ensures running { (p : Plan) (probed : Probed) (probes : List Probe) (lines : Levels)
-        (low : Segments) (st : Standings) → HoldsProbed true probes low
-        → is_line_left_low lines line.DataStrobe ≡ false → Runs p probed lines low st
+/// What is known of a cycle at power-up fits together.
+#[tactic(auto, using(crate::proofs::Fitting::at_power_up))]
+pub fn power_up_fits_together()
+    ensures { (p : Plan) (st : Standings) → IsPowerUp p st → FitsTogether p st }
+{}
+
+/// What is known of a cycle fits together on a running bus, on which DS* is high.
+#[tactic(auto, using(crate::proofs::Fitting::on_a_running_bus))]
+pub fn a_running_bus_fits_together()
+    ensures { (p : Plan) (probed : Probed) (probes : List Probe) (lines : Levels)
+        (low : Segments) (st : Standings) → Runs p probed lines low st
+        → HoldsProbed true probes low → is_line_left_low lines line.DataStrobe ≡ false
         → FitsTogether p st }
+{}
+
+/// What is known of a cycle stays fitting together with the edges that no probe sees, and behind a
+/// change that somebody may have made.
+#[tactic(auto, using(crate::proofs::Fitting::with_hidden, crate::proofs::Fitting::behind))]
+pub fn what_follows_fits_together()
     ensures hidden { (p : Plan) (probed : Probed) (old new : Standings)
         → HasMoved p probed old new → FitsTogether p old → FitsTogether p new }
     ensures behind { (p : Plan) (probed : Probed) (old new : Standings) (c : Change)
