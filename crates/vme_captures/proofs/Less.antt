@@ -127,15 +127,15 @@ pin_left p q g (r ∷ rs) h =
     let k = and_parts (is_same_pin q r || not (is_on p (wire_of p q) r)) (has_own_wire p rs q) h in
     elim (cases_Bool (is_on p g r)) [
       | inl o ↦ elim (cases_Bool (is_same_pin q r)) [
-          | inl s ↦
-              let e : wire_of p q ≡ g = ap (wire_of p) (pin_same q r s) ∙ segment_same (wire_of p r) g o in
-              rw (o, s) (ap (λ w. find (is_on p w) (other_pins q rs)) (sym e) ∙ none_left p q rs k.1)
-          | inr s ↦ rw (s, o, s) refl
-        ]
+        | inl s ↦
+            let e : wire_of p q ≡ g = ap (wire_of p) (pin_same q r s) ∙ segment_same (wire_of p r) g o in
+            rw (o, s) (ap (λ w. find (is_on p w) (other_pins q rs)) (sym e) ∙ none_left p q rs k.1)
+        | inr s ↦ rw (s, o, s) refl
+      ]
       | inr o ↦ elim (cases_Bool (is_same_pin q r)) [
-          | inl s ↦ rw (o, s) (pin_left p q g rs k.1)
-          | inr s ↦ rw (s, o) (pin_left p q g rs k.1)
-        ]
+        | inl s ↦ rw (o, s) (pin_left p q g rs k.1)
+        | inr s ↦ rw (s, o) (pin_left p q g rs k.1)
+      ]
     ]
 
 as_signal : (q : Pin) (o : Option Pin) → option_map (λ r. signal.Pin r) (option_and_then (unless q) o) ≡ option_and_then (unless_signal q) (option_map (λ r. signal.Pin r) o)
@@ -209,8 +209,8 @@ lows_left q pins lows (signal.Line l) h =
     (h, any-filter_same (is_same_signal (signal.Line l)) (is_not_pin q) true (among_line q l) lows)
 lows_left q pins lows (signal.Pin r) h =
     let k = and_parts (not (is_same_pin q r)) (list_any (is_same_pin r) pins)
-        (sym (any-filter_same (is_same_pin r) (λ s. not (is_same_pin q s)) (not (is_same_pin q r))
-            (λ s e. ap (λ t. not (is_same_pin q t)) (sym (pin_same r s e))) pins) ∙ h) in
+    (sym (any-filter_same (is_same_pin r) (λ s. not (is_same_pin q s)) (not (is_same_pin q r))
+    (λ s e. ap (λ t. not (is_same_pin q t)) (sym (pin_same r s e))) pins) ∙ h) in
     (k.1, any-filter_same (is_same_signal (signal.Pin r)) (is_not_pin q) true (λ x e. among_pin q r x e ∙ k.0) lows)
 
 pub without_a_pin : (p : Plan) (c : Capture) (q : Pin) → has_own_wire p c.pins q ≡ true → IsPossible p c → IsPossible p (without_pin q c)

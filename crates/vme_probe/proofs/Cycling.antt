@@ -106,7 +106,7 @@ module _ (p : Plan) (ok : IsAccepted p) (version : Version) (st : Standings) (fi
   chain_high h =
       let each = none_held places (λ s. has st.low.acknowledge s) h in
       let zeros : st.low.acknowledge.bits ≡ 0 = no_bits st.low.acknowledge.bits st.low.acknowledge.bits (omega arith)
-          (λ i. no_bit st.low.acknowledge i (is_false (has st.low.acknowledge i) (λ low. never (has st.low.acknowledge i) low (at i (fits.segments i low) each)))) in
+      (λ i. no_bit st.low.acknowledge i (is_false (has st.low.acknowledge i) (λ low. never (has st.low.acknowledge i) low (at i (fits.segments i low) each)))) in
       grind (arith, nat_tests, zeros)
     where
       at : (i : ℕ) → i < 22 → list_all (λ s. not (has st.low.acknowledge s)) places ≡ true → has st.low.acknowledge i ≡ false
@@ -150,19 +150,19 @@ module _ (p : Plan) (ok : IsAccepted p) (version : Version) (st : Standings) (fi
       let c = one_left (is_left p st s) _ _ _ b.1 in
       let f = phase_left p st.phases (held_first s) a.0 in
       never (has boards s) (shower boards _ who s (near_slot p ok s (λ r. true) (stands_there s has_it)).1 (chain_high c.0) b.0 f.phase f.has
-          (and_parts (is_held_by (λ b. b == s) f.phase) true f.allowed).0) lacks)
+      (and_parts (is_held_by (λ b. b == s) f.phase) true f.allowed).0) lacks)
   address_fall (Some (value.Shown (cycle.Access t))) seen boards who s has_it lacks = named_if _ (λ none.
       let a = one_left (is_left p st s) [] _ _ none in
       let b = one_left (is_left p st s) _ _ _ a.1 in
       let f = phase_left p st.phases (held_first s) a.0 in
       never (has boards s) (shower boards _ who s (near_slot p ok s (λ r. true) (stands_there s has_it)).1 (chain_high b.0) (stands_there s has_it) f.phase f.has
-          (and_parts (is_held_by (λ b. b == s) f.phase) true f.allowed).0) lacks)
+      (and_parts (is_held_by (λ b. b == s) f.phase) true f.allowed).0) lacks)
   address_fall (Some value.Access) seen boards who s has_it lacks = named_if _ (λ none.
       let a = one_left (is_left p st s) [] _ _ none in
       let b = one_left (is_left p st s) _ _ _ a.1 in
       let f = phase_left p st.phases (held_first s) a.0 in
       never (has boards s) (shower boards _ who s (near_slot p ok s (λ r. true) (stands_there s has_it)).1 (chain_high b.0) refl f.phase f.has
-          (and_parts (is_held_by (λ b. b == s) f.phase) true f.allowed).0) lacks)
+      (and_parts (is_held_by (λ b. b == s) f.phase) true f.allowed).0) lacks)
 
   -- ---- DS*
 
@@ -238,9 +238,9 @@ module _ (p : Plan) (ok : IsAccepted p) (version : Version) (st : Standings) (fi
       let k = and_parts (are_alike (nat_le (input_place p s) f.end) true) (are_alike (nat_le s f.end) false && true) f.allowed in
       let l = and_parts (are_alike (nat_le s f.end) false) true k.1 in
       never (has boards s) (answers n s None i boards who stands found a.0 c.0
-          (ends_at_input p ok st.fronts fits.ends s f.end f.near (reaches (input_place p s) f.end k.0) (ends_before s f.end l.0) f.has)
-          (pending_of n s i (up_to_pending p st s n i) stands found c.0 (λ r h. pending_alone (s == s) r (same_slot s) h) d.0)
-          (meant (OnLevel n) s i found c.0)) lacks)
+      (ends_at_input p ok st.fronts fits.ends s f.end f.near (reaches (input_place p s) f.end k.0) (ends_before s f.end l.0) f.has)
+      (pending_of n s i (up_to_pending p st s n i) stands found c.0 (λ r h. pending_alone (s == s) r (same_slot s) h) d.0)
+      (meant (OnLevel n) s i found c.0)) lacks)
   answer_with n s (Some (value.Status b)) seen boards who stands lacks (Some i) found = named_if _ (λ none.
       let a = one_left (is_left p st s) [] _ _ none in
       let b' = one_left (is_left p st s) _ _ _ a.1 in
@@ -252,9 +252,9 @@ module _ (p : Plan) (ok : IsAccepted p) (version : Version) (st : Standings) (fi
       let k = and_parts (are_alike (nat_le (input_place p s) f.end) true) (are_alike (nat_le s f.end) false && true) f.allowed in
       let l = and_parts (are_alike (nat_le s f.end) false) true k.1 in
       never (has boards s) (answers n s (Some (value.Status b)) i boards who stands found a.0 c.0
-          (ends_at_input p ok st.fronts fits.ends s f.end f.near (reaches (input_place p s) f.end k.0) (ends_before s f.end l.0) f.has)
-          (pending_of n s i (up_to_pending p st s n i) stands found c.0 (λ r h. pending_alone (s == s) r (same_slot s) h) d.0)
-          (both _ _ (meant (OnLevel n) s i found c.0) (meant (WithStatus b) s i found y.0))) lacks)
+      (ends_at_input p ok st.fronts fits.ends s f.end f.near (reaches (input_place p s) f.end k.0) (ends_before s f.end l.0) f.has)
+      (pending_of n s i (up_to_pending p st s n i) stands found c.0 (λ r h. pending_alone (s == s) r (same_slot s) h) d.0)
+      (both _ _ (meant (OnLevel n) s i found c.0) (meant (WithStatus b) s i found y.0))) lacks)
   answer_with n s (Some (value.Shown v)) seen boards who stands lacks (Some i) found = absurd (never false seen refl)
   answer_with n s (Some value.Access) seen boards who stands lacks (Some i) found = absurd (never false seen refl)
 

@@ -1,5 +1,5 @@
 -- What is known of a cycle fits together, and stays so: `laws`.
-use Rattle.std.proofs.Common.{◌≡◌, ◌≢◌, ◌∙◌, ◌&&◌, ◌||◌, ◌<◌, ◌≤◌, ◌⊎◌, ℕ, Bool, true, false, cond, not, List, Option, Some, None, is_some, refl, sym, ap, subst, inl, inr, arith}
+use Rattle.std.proofs.Common.{◌≡◌, ◌≢◌, ◌∙◌, ◌&&◌, ◌<◌, ◌⊎◌, ℕ, Bool, true, false, cond, not, List, Option, Some, None, is_some, refl, sym, ap, subst, inl, inr, arith}
 use Rattle.std.proofs.lemmas.Bool.{and_parts, cases_Bool}
 use Rattle.std.proofs.lemmas.Bool.Decides.{nat_tests}
 use Rattle.std.specs.Prelude.{nat_lt, ◌==◌, unwrap_or}
@@ -42,12 +42,12 @@ use Rattle.vme_standings.specs.declared.standings.Probed.{Probed}
 use Rattle.vme_standings.specs.declared.standings.Shown.{Shown}
 use Rattle.vme_standings.specs.declared.standings.Shown.TheVariants as shown
 use Rattle.vme_standings.specs.declared.standings.Standings.{Standings}
-use Rattle.vme_standings.specs.Behind.{AddressersBehind, FrontsAnswered, FrontsBehind, FrontsPassed, FrontsTimedOut, IsBehind, LinesBehind, LowBehind, SetsLine, SetsWire, shown_behind, shown_of}
-use Rattle.vme_standings.specs.Driving.{AreDrivers, BoardsMake, ControllerMakes, can_end, can_strobe, is_left_low, last_place}
-use Rattle.vme_standings.specs.Fronts.{IsWaiting, MovesFronts, Reaches, input_place, may_fall_at, place_of}
-use Rattle.vme_standings.specs.Hidden.{ArePassing, FrontsHidden, HasMoved, HidesFronts, is_waited_for}
+use Rattle.vme_standings.specs.Behind.{AddressersBehind, FrontsAnswered, FrontsBehind, FrontsPassed, FrontsTimedOut, IsBehind, LinesBehind, SetsWire, shown_behind, shown_of}
+use Rattle.vme_standings.specs.Driving.{AreDrivers, BoardsMake, ControllerMakes, can_end, can_strobe, is_left_low}
+use Rattle.vme_standings.specs.Fronts.{input_place, may_fall_at, place_of}
+use Rattle.vme_standings.specs.Hidden.{FrontsHidden, HasMoved, HidesFronts, is_waited_for}
 use Rattle.vme_standings.specs.Interrupters.{is_meant, is_meant_at}
-use Rattle.vme_standings.specs.Moving.{moved_by, segment_moved}
+use Rattle.vme_standings.specs.Moving.{segment_moved}
 use Rattle.vme_standings.specs.Requests.{is_interrupter}
 use Rattle.vme_standings.specs.Running.{IsPowerUp, Runs}
 use Rattle.vme_standings.specs.Slots.{EachSlot}

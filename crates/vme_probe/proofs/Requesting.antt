@@ -33,7 +33,7 @@ request_fall p ok st n boards who s on lacks = named_if _ (λ none.
     let k = one_left (is_left p st s) [] _ _ none in
     let f = phase_left p st.phases (request_falls s) k.0 in
     never (has boards s) (who.all s f.phase (near_slot p ok s (requests_on n) on).1 f.near on f.has
-        (denied (is_held_by (λ b. b == s) f.phase) (and_parts (not (is_held_by (λ b. b == s) f.phase)) true f.allowed).0)) lacks)
+    (denied (is_held_by (λ b. b == s) f.phase) (and_parts (not (is_held_by (λ b. b == s) f.phase)) true f.allowed).0)) lacks)
 
 pub requests_hindered : (p : Plan) (probed : Probed) (st : Standings) (c : Change) (may : Drivers) → IsAccepted p → AreDrivers p probed st c may
     → c.fall ≡ true → is_of_requests c.signal ≡ true → AreOthersHindered p probed.version st c may

@@ -148,13 +148,13 @@ module _ (p : Plan) (ok : IsAccepted p) (version : Version) (st : Standings) whe
       let i = interrupter_of p n s on in
       let near = near_slot p ok s (interrupts_on n) on in
       named_if _ (λ none.
-        let a = one_left (is_left p st s) [] _ _ (rw i.found at none) in
-        let b = one_left (is_left p st s) _ _ _ a.1 in
-        let c = one_left (is_left p st s) _ _ _ b.1 in
-        let left : are_requests_left p s (is_on_low_line st.lines p s) st.requests (interrupt_rises (Some i.row)) n ≡ true =
-            ap (λ k. are_requests_left p s (is_on_low_line st.lines p s) st.requests (interrupt_rises (Some i.row)) k) (sym i.level)
-            ∙ (rw i.found at c.0) in
-        never (has boards s) ((who.able s near.0 near.1).1 (may_rise n s (is_on_low_line st.lines p s) i.row who.line who.level on left)) lacks)
+      let a = one_left (is_left p st s) [] _ _ (rw i.found at none) in
+      let b = one_left (is_left p st s) _ _ _ a.1 in
+      let c = one_left (is_left p st s) _ _ _ b.1 in
+      let left : are_requests_left p s (is_on_low_line st.lines p s) st.requests (interrupt_rises (Some i.row)) n ≡ true =
+      ap (λ k. are_requests_left p s (is_on_low_line st.lines p s) st.requests (interrupt_rises (Some i.row)) k) (sym i.level)
+      ∙ (rw i.found at c.0) in
+      never (has boards s) ((who.able s near.0 near.1).1 (may_rise n s (is_on_low_line st.lines p s) i.row who.line who.level on left)) lacks)
 
   -- ---- all of them
 

@@ -40,8 +40,8 @@ pub fn others_cannot_request()
         → is_of_requests c.signal ≡ true → AreOthersHindered p probed.version st c may }
 {}
 
-/// Whoever has AS*, DS*, DTACK* or BERR*, and may not have pulled it, has a condition that is named.
-/// What is known of the cycle fits together.
+/// Whoever has AS*, DS*, DTACK* or BERR* when it falls, and may not have pulled it, has a condition
+/// that is named. What is known of the cycle fits together.
 #[tactic(auto, using(crate::proofs::Cycling::cycles_hindered))]
 pub fn others_cannot_go_on_with_a_cycle()
     ensures { (p : Plan) (probed : Probed) (st : Standings) (c : Change) (may : Drivers)
