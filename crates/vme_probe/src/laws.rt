@@ -50,16 +50,10 @@ pub fn others_cannot_go_on_with_a_cycle()
         → is_of_a_cycle c.signal ≡ true → AreOthersHindered p probed.version st c may }
 {}
 
-/// What is known of a cycle at power-up fits together.
-#[tactic(auto, using(crate::proofs::Fitting::at_power_up))]
-pub fn power_up_fits_together()
-    ensures { (p : Plan) (st : Standings) → IsPowerUp p st → FitsTogether p st }
-{}
-
-/// What is known of a cycle fits together on a running bus, on which DS* is high.
-#[tactic(auto, using(crate::proofs::Fitting::on_a_running_bus))]
-pub fn a_running_bus_fits_together()
-    ensures { (p : Plan) (probed : Probed) (probes : List Probe) (lines : Levels)
+/// What is known of a cycle fits together at power-up, and on a running bus, on which DS* is high.
+pub fn a_beginning_fits_together()
+    ensures power_up { (p : Plan) (st : Standings) → IsPowerUp p st → FitsTogether p st }
+    ensures running { (p : Plan) (probed : Probed) (probes : List Probe) (lines : Levels)
         (low : Segments) (st : Standings) → Runs p probed lines low st
         → HoldsProbed true probes low → is_line_left_low lines line.DataStrobe ≡ false
         → FitsTogether p st }
