@@ -18,7 +18,7 @@ use Rattle.vme_captures.specs.declared.signals.Value.TheVariants.{Shown, Access,
 use Rattle.vme_captures.specs.declared.signals.Change.{Change}
 use Rattle.vme_captures.specs.Changes.{agrees, are_values_of, change_of, differ, is_low, is_same_way, line_of, seen, segment_of, signal_of, signal_on}
 use Rattle.vme_captures.specs.Leaving.{has_own_wire, is_not_pin, value_without_byte, value_without_slot, without_byte, without_pin, without_slot}
-use Rattle.vme_captures.specs.Possible.{AgreeEach, Begins, Capture, Explains, IsPossible, Sighting, is_among, is_probed, sightings, with_sighting}
+use Rattle.vme_captures.specs.Possible.{AgreeEach, Capture, IsPossible, Sighting, is_among, is_probed, sightings, with_sighting}
 use Rattle.vme_captures.specs.Signals.{is_same_pin, is_same_signal}
 use Rattle.vme_captures.specs.Wires.{is_on, pin_on, wire_of}
 use Rattle.vme_captures.proofs.Same.{false_true, pin_same, segment_same, signal_same}

@@ -1,9 +1,9 @@
 -- Whoever may not have pulled AS*, DS*, DTACK* or BERR* has a condition that is named: `laws`.
-use Rattle.std.proofs.Common.{◌≡◌, ◌≢◌, ◌∙◌, ◌&&◌, ◌||◌, ◌+◌, ◌*◌, ◌/◌, ◌%◌, ◌≤◌, ℕ, zero, suc, Bool, true, false, not, List, [], ◌∷◌, ◌++◌, Option, Some, None, is_some, refl, sym, ap, subst, inl, inr, arith}
+use Rattle.std.proofs.Common.{◌≡◌, ◌∙◌, ◌&&◌, ◌||◌, ◌/◌, ◌≤◌, ℕ, zero, suc, Bool, true, false, not, List, [], ◌∷◌, Option, Some, None, is_some, refl, sym, ap, subst, inl, inr, arith}
 use Rattle.std.proofs.lemmas.Bool.{and_parts, cases_Bool}
 use Rattle.std.proofs.lemmas.Bool.Decides.{nat_tests}
 use Rattle.std.proofs.lemmas.Nat.Bits.{bit_at-lt, bit_at-suc, bit_at_lowest}
-use Rattle.std.specs.Prelude.{nat_lt, nat_le, ◌==◌, ◌<◌, ◌⊎◌, length, unwrap_or}
+use Rattle.std.specs.Prelude.{nat_le, ◌==◌, ◌<◌, unwrap_or}
 use Rattle.std.specs.Int.{bit_at}
 use Rattle.std.specs.List.{list_all, list_any}
 use Rattle.std.specs.Option.{option_and_then, option_map_or}
@@ -13,7 +13,7 @@ use Rattle.vme_model.specs.declared.sets.ChainId.TheVariants as chain
 use Rattle.vme_model.specs.declared.signals.Cycle.TheVariants as cycle
 use Rattle.vme_model.specs.declared.signals.Version.{Version}
 use Rattle.vme_model.specs.Accepted.{IsAccepted}
-use Rattle.vme_model.specs.Plan.{Plan, board, last_active, upstream}
+use Rattle.vme_model.specs.Plan.{Plan, board, last_active}
 use Rattle.vme_model.proofs.Bools.{same_number}
 use Rattle.vme_bus.specs.declared.sets.SlotSet.{SlotSet}
 use Rattle.vme_bus.specs.Sets.{has}
@@ -61,14 +61,14 @@ use Rattle.vme_probe.proofs.Leaving.{each_place, end_left, ends_at_input, ends_b
 -- ---- a set of no slot
 
 -- a number without a bit is 0
-no_bits : (most n : ℕ) → n ≤ most → ((i : ℕ) → bit_at n i ≡ 0) → n ≡ 0
+pub no_bits : (most n : ℕ) → n ≤ most → ((i : ℕ) → bit_at n i ≡ 0) → n ≡ 0
 no_bits zero n small h = omega arith
 no_bits (suc most) n small h =
     let low = sym (bit_at_lowest n) ∙ h 0 in
     let half = no_bits most (n / 2) (omega arith) (λ i. sym (bit_at-suc n i) ∙ h (suc i)) in
     omega (arith, low, half)
 
-no_bit : (set : SlotSet) (s : ℕ) → has set s ≡ false → bit_at set.bits s ≡ 0
+pub no_bit : (set : SlotSet) (s : ℕ) → has set s ≡ false → bit_at set.bits s ≡ 0
 no_bit set s lacks = let less = bit_at-lt set.bits s in grind (arith, nat_tests, less, lacks)
 
 none_held : (xs : List ℕ) (t : ℕ → Bool) → not (list_any t xs) ≡ true → list_all (λ s. not (t s)) xs ≡ true

@@ -8,6 +8,8 @@ pub mod Rising
 pub mod Requesting
 -- what stands in the way of AS*, DS*, DTACK* and BERR*: `laws`
 pub mod Cycling
+-- what is known of a cycle fits together: `laws`
+pub mod Fitting
 -- the lines of the changes that may come: `answers`
 pub mod Coming
 -- one line more in a loop: `answers`

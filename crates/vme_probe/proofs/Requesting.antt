@@ -1,14 +1,12 @@
 -- Whoever may not have made a request, of the bus or of an interrupt, has a condition that is named: `laws`.
-use Rattle.std.proofs.Common.{◌≡◌, ◌≢◌, ◌∙◌, ◌&&◌, ℕ, Bool, true, false, not, List, [], ◌∷◌, Option, is_some, refl, sym, ap, subst, inl, inr}
-use Rattle.std.proofs.lemmas.Bool.{and_parts, cases_Bool}
-use Rattle.std.specs.Prelude.{◌==◌, ◌⊎◌, ◌<◌}
-use Rattle.vme_model.specs.declared.signals.Version.{Version}
+use Rattle.std.proofs.Common.{◌≡◌, ◌∙◌, ℕ, Bool, true, false, not, [], is_some, refl}
+use Rattle.std.proofs.lemmas.Bool.{and_parts}
+use Rattle.std.specs.Prelude.{◌==◌}
 use Rattle.vme_model.specs.Accepted.{IsAccepted}
 use Rattle.vme_model.specs.Plan.{Plan, requests_on}
 use Rattle.vme_bus.specs.declared.sets.SlotSet.{SlotSet}
 use Rattle.vme_bus.specs.Sets.{has}
 use Rattle.vme_captures.specs.declared.signals.Change.{Change}
-use Rattle.vme_captures.specs.declared.signals.Line.{Line}
 use Rattle.vme_captures.specs.declared.signals.Line.TheVariants as line
 use Rattle.vme_captures.specs.declared.signals.Signal.{Signal}
 use Rattle.vme_captures.specs.declared.signals.Signal.TheVariants as signal
@@ -18,7 +16,7 @@ use Rattle.vme_standings.specs.declared.standings.Standings.{Standings}
 use Rattle.vme_standings.specs.Driving.{AreAskers, AreDrivers}
 use Rattle.vme_standings.specs.GrantChains.{is_of_level}
 use Rattle.vme_standings.specs.Phases.{is_held_by}
-use Rattle.vme_standings.proofs.Tests.{is_false, never}
+use Rattle.vme_standings.proofs.Tests.{never}
 use Rattle.vme_probe.specs.Conditions.{request_falls}
 use Rattle.vme_probe.specs.Demands.{first_failing, is_left}
 use Rattle.vme_probe.specs.Hindered.{AreOthersHindered, is_of_requests}

@@ -1,13 +1,11 @@
 -- Whoever may not have let a shared line rise, other than BBSY*, has a condition that is named: `laws`.
-use Rattle.std.proofs.Common.{◌≡◌, ◌≢◌, ◌∙◌, ◌&&◌, ◌||◌, ℕ, Bool, true, false, cond, not, List, [], ◌∷◌, Option, Some, None, is_some, refl, sym, ap, subst, inl, inr, arith}
+use Rattle.std.proofs.Common.{◌≡◌, ◌≢◌, ◌∙◌, ◌&&◌, ◌||◌, ℕ, Bool, true, false, not, [], ◌∷◌, Some, is_some, refl, sym, ap, subst, inl, inr, arith}
 use Rattle.std.proofs.lemmas.Bool.Decides.{nat_tests}
 use Rattle.std.proofs.lemmas.Bool.{and_parts, cases_Bool}
-use Rattle.std.specs.Prelude.{nat_lt, nat_le, ◌==◌, ◌<◌, ◌⊎◌}
-use Rattle.std.specs.List.{list_all, list_any}
+use Rattle.std.specs.Prelude.{◌==◌, ◌<◌}
 use Rattle.vme_model.specs.declared.boards.InterrupterRow.{InterrupterRow}
 use Rattle.vme_model.specs.declared.conditions.Condition.TheVariants.{OwnBusyLow}
 use Rattle.vme_model.specs.declared.sentences.Rule.TheVariants.{G10}
-use Rattle.vme_model.specs.declared.signals.Driver.TheVariants.{Controller, Slot}
 use Rattle.vme_model.specs.declared.signals.Version.{Version}
 use Rattle.vme_model.specs.Accepted.{IsAccepted}
 use Rattle.vme_model.specs.Plan.{Plan, interrupts_on, requests_on}
@@ -21,32 +19,27 @@ use Rattle.vme_captures.specs.declared.signals.Line.TheVariants as line
 use Rattle.vme_captures.specs.declared.signals.Signal.{Signal}
 use Rattle.vme_captures.specs.declared.signals.Signal.TheVariants as signal
 use Rattle.vme_standings.specs.declared.cuts.PhaseFact.TheVariants.{HeldBy}
-use Rattle.vme_standings.specs.declared.interrupters.Interrupters.TheVariants.{OnLevel}
 use Rattle.vme_standings.specs.declared.moving.Moved.TheVariants as moved
 use Rattle.vme_standings.specs.declared.phases.GrantPhase.{GrantPhase}
 use Rattle.vme_standings.specs.declared.phases.GrantPhase.TheVariants.{Idle, Granting, Held, Expired}
-use Rattle.vme_standings.specs.declared.phases.GrantPhases.{GrantPhases}
 use Rattle.vme_standings.specs.declared.requests.Request.{Request}
 use Rattle.vme_standings.specs.declared.requests.Request.TheVariants as request
-use Rattle.vme_standings.specs.declared.requests.Requests.{Requests}
 use Rattle.vme_standings.specs.declared.standings.Drivers.{Drivers}
 use Rattle.vme_standings.specs.declared.standings.Probed.{Probed}
 use Rattle.vme_standings.specs.declared.standings.Standings.{Standings}
-use Rattle.vme_standings.specs.Cuts.{is_so}
 use Rattle.vme_standings.specs.Driving.{AreDrivers, AreRisers, AreWithdrawers, BoardsLetGo, CanClear, ControllerMakes, can_end, is_answered, is_left_low}
 use Rattle.vme_standings.specs.GrantChains.{is_of_level}
 use Rattle.vme_standings.specs.Grants.{are_alike, is_clear_due}
-use Rattle.vme_standings.specs.Interrupters.{is_meant_at, is_on_low_line}
+use Rattle.vme_standings.specs.Interrupters.{is_on_low_line}
 use Rattle.vme_standings.specs.Moving.{asked}
-use Rattle.vme_standings.specs.Phases.{has_phase, is_held_by, is_in_table}
+use Rattle.vme_standings.specs.Phases.{has_phase, is_held_by}
 use Rattle.vme_standings.specs.RequestSets.{MayRise, may_be}
 use Rattle.vme_standings.specs.Requests.{AreOnLevel, is_on_level}
 use Rattle.vme_standings.specs.Standings.{controller_drives, drives}
 use Rattle.vme_standings.proofs.Tests.{both, is_false, never}
-use Rattle.vme_probe.specs.declared.demands.Demand.{Demand}
 use Rattle.vme_probe.specs.declared.obstacles.Obstacle.TheVariants.{Fails}
 use Rattle.vme_probe.specs.Conditions.{clear_rises, interrupt_rises, line_rises, request_rises}
-use Rattle.vme_probe.specs.Demands.{are_grants_left, are_requests_left, can_pull, can_stand, first_failing, interrupter_at, is_any_left, is_left, is_phase_allowed, is_pending, is_pull_left, is_request_allowed, is_request_left, is_served, on_grants, places, pulls}
+use Rattle.vme_probe.specs.Demands.{are_requests_left, first_failing, interrupter_at, is_left, is_served, on_grants, pulls}
 use Rattle.vme_probe.specs.Hindered.{AreOthersHindered, is_line_but_busy}
 use Rattle.vme_probe.proofs.Leaving.{interrupter_of, named_if, near_slot, one_left, phase_left, request_of_level}
 

@@ -4,7 +4,6 @@ use Rattle.vme_model.specs.declared.signals.Driver.{Driver}
 use Rattle.vme_model.specs.declared.signals.Driver.TheVariants.{Controller, Slot}
 use Rattle.vme_model.specs.declared.signals.Version.{Version}
 use Rattle.vme_model.specs.Plan.{Plan}
-use Rattle.vme_bus.specs.declared.sets.SlotSet.{SlotSet}
 use Rattle.vme_bus.specs.Sets.{has}
 use Rattle.vme_captures.specs.declared.signals.Change.{Change}
 use Rattle.vme_standings.specs.declared.standings.Drivers.{Drivers}
@@ -31,9 +30,9 @@ pub record AreOthersHindered (p : Plan) (version : Version) (st : Standings) (c 
   pub boards : (s : ℕ) → drives p (moved_by p c.signal) s ≡ true → has may.boards s ≡ false
       → is_hindered p version st c (Slot s) ≡ true
 
--- What is known of a cycle fits together: DS* is low, and a board may drive AS*, only while a cycle is
--- shown. The low segments of the acknowledge chain end at one that the chain has, and none that is
--- probed lies beyond the last slot.
+-- What is known of a cycle fits together: DS* is low, and a board may drive AS*, only while a cycle
+-- is shown. The low segments of the acknowledge chain end at one that the chain has, and none that
+-- is probed lies beyond the last slot.
 pub record FitsTogether (p : Plan) (st : Standings) : Type 0 where
   pub strobed : is_left_low st line.DataStrobe ≡ true → is_some st.shown ≡ true
   pub addressed : (s : ℕ) → has st.addressers s ≡ true → is_some st.shown ≡ true

@@ -1,13 +1,23 @@
 //! What holds of whoever may not have made a change: one of the change's conditions is named.
 //!
 //! The functions do nothing. Each is a theorem, which its contract states.
-ghost use Rattle.std.specs.Prelude.{◌≡◌, true, false};
+ghost use Rattle.std.specs.Prelude.{◌≡◌, List, true, false};
+ghost use Rattle.vme_captures.specs.Levels.{is_line_left_low};
 ghost use Rattle.vme_captures.specs.Signals.{is_change};
+ghost use Rattle.vme_captures.specs.declared.levels.Levels.{Levels};
+ghost use Rattle.vme_captures.specs.declared.reader.Probe.{Probe};
 ghost use Rattle.vme_captures.specs.declared.signals.Change.{Change};
+ghost use Rattle.vme_captures.specs.declared.signals.Line.TheVariants as line;
 ghost use Rattle.vme_model.specs.Accepted.{IsAccepted};
 ghost use Rattle.vme_model.specs.Plan.{Plan};
 ghost use Rattle.vme_probe.specs.Hindered.{AreOthersHindered, FitsTogether, is_line_but_busy, is_of_a_cycle, is_of_requests};
+ghost use Rattle.vme_probe.specs.Pins.{HoldsProbed};
+ghost use Rattle.vme_standings.specs.Behind.{IsBehind};
 ghost use Rattle.vme_standings.specs.Driving.{AreDrivers};
+ghost use Rattle.vme_standings.specs.Hidden.{HasMoved};
+ghost use Rattle.vme_standings.specs.Running.{IsPowerUp, Runs};
+ghost use Rattle.vme_standings.specs.Standings.{is_nobody};
+ghost use Rattle.vme_standings.specs.declared.segments.Segments.{Segments};
 ghost use Rattle.vme_standings.specs.declared.standings.Drivers.{Drivers};
 ghost use Rattle.vme_standings.specs.declared.standings.Probed.{Probed};
 ghost use Rattle.vme_standings.specs.declared.standings.Standings.{Standings};
@@ -30,12 +40,33 @@ pub fn others_cannot_request()
         → is_of_requests c.signal ≡ true → AreOthersHindered p probed.version st c may }
 {}
 
-/// Whoever has AS*, DS*, DTACK* or BERR*, and may not have pulled it, has a condition that is named.
-/// What is known of the cycle fits together.
+/// Whoever has AS*, DS*, DTACK* or BERR* when it falls, and may not have pulled it, has a condition
+/// that is named. What is known of the cycle fits together.
 #[tactic(auto, using(crate::proofs::Cycling::cycles_hindered))]
 pub fn others_cannot_go_on_with_a_cycle()
     ensures { (p : Plan) (probed : Probed) (st : Standings) (c : Change) (may : Drivers)
         → IsAccepted p → AreDrivers p probed st c may → FitsTogether p st
         → is_change c ≡ true → c.fall ≡ true
         → is_of_a_cycle c.signal ≡ true → AreOthersHindered p probed.version st c may }
+{}
+
+/// What is known of a cycle fits together at power-up, and on a running bus, on which DS* is high.
+pub fn a_beginning_fits_together()
+    ensures power_up { (p : Plan) (st : Standings) → IsPowerUp p st → FitsTogether p st }
+    ensures running { (p : Plan) (probed : Probed) (probes : List Probe) (lines : Levels)
+        (low : Segments) (st : Standings) → Runs p probed lines low st
+        → HoldsProbed true probes low → is_line_left_low lines line.DataStrobe ≡ false
+        → FitsTogether p st }
+{}
+
+/// What is known of a cycle stays fitting together with the edges that no probe sees, and behind a
+/// change that somebody may have made.
+#[tactic(auto, using(crate::proofs::Fitting::with_hidden, crate::proofs::Fitting::behind))]
+pub fn what_follows_fits_together()
+    ensures hidden { (p : Plan) (probed : Probed) (old new : Standings)
+        → HasMoved p probed old new → FitsTogether p old → FitsTogether p new }
+    ensures behind { (p : Plan) (probed : Probed) (old new : Standings) (c : Change)
+        (may : Drivers) → IsAccepted p → AreDrivers p probed old c may → is_nobody may ≡ false
+        → is_change c ≡ true → IsBehind p probed old c new → FitsTogether p old
+        → FitsTogether p new }
 {}
