@@ -23,7 +23,9 @@ before_both a b c f g = by_place (cases_lt f.place g.place)
   where
     by_place : (f.place < g.place) ⊎ (g.place ≤ f.place) → IsBefore a c
     by_place (inl l) = record {
-      place = f.place; near = f.near; here = f.here;
+      place = f.place;
+      near = f.near;
+      here = f.here;
       missing = sym (g.same f.place l) ∙ f.missing;
       same = λ j m. f.same j m ∙ g.same j (omega (arith, l, m));
     }
@@ -31,7 +33,8 @@ before_both a b c f g = by_place (cases_lt f.place g.place)
       where
         by_same : (g.place < f.place) ⊎ (f.place ≤ g.place) → IsBefore a c
         by_same (inl m) = record {
-          place = g.place; near = g.near;
+          place = g.place;
+          near = g.near;
           here = f.same g.place m ∙ g.here;
           missing = g.missing;
           same = λ j k. f.same j (omega (arith, m, k)) ∙ g.same j k;

@@ -149,7 +149,7 @@ next_kept : (p : Plan) (probed : Probed) (sample : List SeenChange) (known : Kno
 next_kept p probed sample known goal put set back i is old new d puts le m =
     let grown : 0 < 2 ^ i = pow_pos i in
     let e : is_reaching new goal (with set i) ≡ is_reaching old goal (with set i) =
-        ap (λ x. nat_le (set.bits + 2 ^ i) goal.bits && x) (puts.others (with set i) (λ q. let r : set.bits + 2 ^ i ≡ put.bits = q in absurd (omega (arith, grown, le, r)))) in
+    ap (λ x. nat_le (set.bits + 2 ^ i) goal.bits && x) (puts.others (with set i) (λ q. let r : set.bits + 2 ^ i ≡ put.bits = q in absurd (omega (arith, grown, le, r)))) in
     record {
       able = λ c r. m.able c (sym e ∙ r);
       late = m.late;

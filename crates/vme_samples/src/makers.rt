@@ -46,9 +46,7 @@ impl Makers {
     fn none() -> Makers
         ensures { (i : ℕ) → i < 12 → by_at result i ≡ nobody }
     {
-        Makers {
-            by: [NOBODY; MOST],
-        }
+        Makers { by: [NOBODY; MOST] }
     }
 
     /// Who may have made the change at a place.
@@ -75,11 +73,7 @@ impl Ways {
         ensures { result ≡ is_reaching self.now.reaching.items goal places }
     {
         places.number() <= goal.number()
-            && self
-                .reaching
-                .get(places.number())
-                .copied()
-                .unwrap_or(false)
+            && self.reaching.get(places.number()).copied().unwrap_or(false)
     }
 
     /// Who may make the change at a place next behind a set, if all of the goal is reached then.

@@ -60,8 +60,7 @@ impl Ways {
     ///
     /// # Errors
     /// There is no memory for it.
-    pub fn new(alloc: Global) -> Result<Ways, AllocError>
-    {
+    pub fn new(alloc: Global) -> Result<Ways, AllocError> {
         let mut known = Vec::new(alloc);
         known.resize(SETS, None)?;
         let mut reaching = Vec::new(alloc);
