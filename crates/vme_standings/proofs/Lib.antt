@@ -60,3 +60,11 @@ pub mod GrantHidden
 pub mod GrantOthers
 -- every bus that keeps the rules is in a phase of the grants and BBSY*: `grant_laws`
 pub mod GrantBegins
+-- how the levels of the shared lines and of the segments move with an edge: `joined_laws`
+pub mod JoinedLevels
+-- what is known of a cycle, behind an edge: `joined_laws`
+pub mod JoinedCycle
+-- how the levels that the probes see move with an edge: `joined_laws`
+pub mod JoinedSegments
+-- what is known at the beginning covers the bus: `joined_laws`
+pub mod JoinedBegins

@@ -49,3 +49,5 @@ pub mod Unseen
 pub mod Unions
 -- believe: when a bus is in a phase of the grants and BBSY*, and when a set covers it
 pub mod InPhase
+-- believe: when all that is known of a bus covers it
+pub mod Covers

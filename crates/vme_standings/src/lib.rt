@@ -23,6 +23,7 @@ pub mod grant_laws;
 pub mod grants;
 mod hidden;
 mod interrupters;
+pub mod joined_laws;
 pub mod laws;
 mod moving;
 mod phases;
