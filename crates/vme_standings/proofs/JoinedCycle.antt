@@ -42,19 +42,19 @@ use Rattle.vme_standings.proofs.WhoDrives.{line_shows, silent_on}
 
 -- one board at a time drives AS*, and one DS*, within its AS* and with its address on
 module _ (p : Plan) (h : List Edge) where
-  strobe_alone : Going p h → (s t : ℕ) → drive h (Slot s) wire.AddressStrobe ≡ true → drive h (Slot t) wire.AddressStrobe ≡ true → s ≡ t
+  pub strobe_alone : Going p h → (s t : ℕ) → drive h (Slot s) wire.AddressStrobe ≡ true → drive h (Slot t) wire.AddressStrobe ≡ true → s ≡ t
   strobe_alone (Quiet, i) s t a b = absurd (never (drive h (Slot s) wire.AddressStrobe) a (i.strobe_high s))
   strobe_alone (Fresh m, i) s t a b = i.opened.strobe_only s a ∙ sym (i.opened.strobe_only t b)
   strobe_alone (Asking m g hi, i) s t a b = i.opened.strobe_only s a ∙ sym (i.opened.strobe_only t b)
   strobe_alone (Done m, i) s t a b = i.opened.strobe_only s a ∙ sym (i.opened.strobe_only t b)
 
-  data_alone : Going p h → (s t : ℕ) → drive h (Slot s) wire.DataStrobe ≡ true → drive h (Slot t) wire.DataStrobe ≡ true → s ≡ t
+  pub data_alone : Going p h → (s t : ℕ) → drive h (Slot s) wire.DataStrobe ≡ true → drive h (Slot t) wire.DataStrobe ≡ true → s ≡ t
   data_alone (Quiet, i) s t a b = absurd (never (drive h (Slot s) wire.DataStrobe) a (i.dstrobe_high s))
   data_alone (Fresh m, i) s t a b = absurd (never (drive h (Slot s) wire.DataStrobe) a (i.dstrobe_high s))
   data_alone (Asking m g hi, i) s t a b = i.dstrobe_only s a ∙ sym (i.dstrobe_only t b)
   data_alone (Done m, i) s t a b = absurd (never (drive h (Slot s) wire.DataStrobe) a (i.dstrobe_high s))
 
-  data_within : Going p h → (s : ℕ) → drive h (Slot s) wire.DataStrobe ≡ true → (drive h (Slot s) wire.AddressStrobe ≡ true) × (drive h (Slot s) wire.Addr ≡ true)
+  pub data_within : Going p h → (s : ℕ) → drive h (Slot s) wire.DataStrobe ≡ true → (drive h (Slot s) wire.AddressStrobe ≡ true) × (drive h (Slot s) wire.Addr ≡ true)
   data_within (Quiet, i) s a = absurd (never (drive h (Slot s) wire.DataStrobe) a (i.dstrobe_high s))
   data_within (Fresh m, i) s a = absurd (never (drive h (Slot s) wire.DataStrobe) a (i.dstrobe_high s))
   data_within (Asking m g hi, i) s a =
