@@ -135,7 +135,7 @@ of_request p e n is = by_wire e.driver e.wire refl refl is
     by_wire d w driver is x = absurd (cc)
 
 -- BCLR* is moved by the controller
-bclr_is : (d : Driver) (w : Wire) (r : Option Row) → has_wire d w ≡ true → line_of w r ≡ Some on_line.Bclr → (d ≡ Controller) × (w ≡ wire.Bclr)
+pub bclr_is : (d : Driver) (w : Wire) (r : Option Row) → has_wire d w ≡ true → line_of w r ≡ Some on_line.Bclr → (d ≡ Controller) × (w ≡ wire.Bclr)
 bclr_is Controller wire.Bclr r has is = (refl, refl)
 bclr_is d wire.Br r has is = absurd (no_request (option_and_then (λ (b : Row). b.requester) r) is)
   where

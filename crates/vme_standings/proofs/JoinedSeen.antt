@@ -43,31 +43,34 @@ use Rattle.vme_standings.specs.declared.standings.Drivers.{Drivers}
 use Rattle.vme_standings.specs.declared.standings.Probed.{Probed}
 use Rattle.vme_standings.specs.declared.standings.Shown.{Shown}
 use Rattle.vme_standings.specs.declared.standings.Standings.{Standings}
+use Rattle.vme_standings.specs.declared.phases.GrantPhase.{GrantPhase}
 use Rattle.vme_standings.specs.declared.phases.GrantPhases.{GrantPhases}
 use Rattle.vme_standings.specs.declared.fronts.Fronts.{Fronts}
 use Rattle.vme_standings.specs.declared.requests.Requests.{Requests}
 use Rattle.vme_standings.specs.Behind.{IsBehind, LinesBehind, LowBehind}
 use Rattle.vme_standings.specs.Covers.{Among, AreLevels, Covers, KnowsShown, KnowsStrobed}
 use Rattle.vme_standings.specs.Cycles.{CoversDrivers}
-use Rattle.vme_standings.specs.Driving.{AreDrivers, can_end, can_strobe, is_answered, is_left_low}
+use Rattle.vme_standings.specs.Driving.{AreDrivers, CanClear, can_end, can_strobe, is_answered, is_left_low}
 use Rattle.vme_standings.specs.FrontCovers.{CoversFronts}
+use Rattle.vme_standings.specs.Grants.{are_alike, is_clear_due}
 use Rattle.vme_standings.specs.InPhase.{AreAsked, CoversGrants}
 use Rattle.vme_standings.specs.Moving.{asked}
+use Rattle.vme_standings.specs.Phases.{HasExactly, has_phase}
 use Rattle.vme_standings.specs.Requests.{AreOnLevel, CoversRequests, IsBy}
 use Rattle.vme_standings.specs.RequestSets.{Falls, Rises, may_be}
 use Rattle.vme_standings.proofs.FrontSeen.{as_edge, error_is, quiet_covers, strobe_rises}
-use Rattle.vme_standings.proofs.GrantOthers.{asked_by, asked_covers, clear_is, cleared_able, cleared_covers, in_table, keeps, of_request, withdrawn_by, withdrawn_covers}
+use Rattle.vme_standings.proofs.GrantOthers.{asked_by, asked_covers, cleared_able, cleared_by, cleared_covers, in_table, keeps, of_request, withdrawn_by, withdrawn_covers}
 use Rattle.vme_standings.proofs.GrantSeen.{released_by, released_covers, taken_by, taken_covers}
 use Rattle.vme_standings.proofs.JoinedCycle.{data_within, driven_by, goes, shown_kept, strobe_alone, strobed_kept}
 use Rattle.vme_standings.proofs.JoinedLevels.{drive_stays}
 use Rattle.vme_standings.proofs.JoinedSegments.{levels_behind}
-use Rattle.vme_standings.proofs.RequestLaws.{fall_by as irq_fall_by, fall_keeps, in_slot, is_by, rise_by as irq_rise_by, rise_keeps}
+use Rattle.vme_standings.proofs.RequestLaws.{InSlot, fall_by as irq_fall_by, fall_keeps, in_slot, is_by, rise_by as irq_rise_by, rise_keeps}
 use Rattle.vme_standings.proofs.RequestPasses.{other_keeps}
 use Rattle.vme_standings.proofs.RequestRows.{irq_fell, irq_rose, mover, passed_as}
 use Rattle.vme_standings.proofs.RequestSteps.{same_driver}
 use Rattle.vme_standings.proofs.SeenEdges.{line_is}
 use Rattle.vme_standings.proofs.SeenLines.{differs, irq_falls, irq_rises, way}
-use Rattle.vme_standings.proofs.Tests.{both, never, or_left}
+use Rattle.vme_standings.proofs.Tests.{both, is_false, never, or_left}
 use Rattle.vme_standings.proofs.WhoDrives.{fall_by, fell, line_shows, rise_by, rise_leaves, rose, silent_on, strobes}
 
 -- what a change makes of what is known: whoever made it is among those who may have, and what is
@@ -121,8 +124,8 @@ pub rise_moves : (version : Version) (p : Plan) → IsAccepted p → (h : List E
 rise_moves version p ok h e legal w low high =
     let f = some_row (pulls_line h w) (IsRowInRange p) p.rows (in_range p ok).rows low in
     let was : drive h (Slot f.0.slot) w ≡ true = and_right (drives w f.0) (drive h (Slot f.0.slot) w) f.1 in
-    let m = mover p h e w false (λ t. drive h (Slot t) w ≡ true) f.0.slot was (silent_on version p ok (e ∷ h) legal f.0.slot w high) was in
-    is_by e (λ t. (is_same_driver e.driver (Slot t) ≡ true) × (drive h (Slot t) w ≡ true)) m.slot (in_slot p ok f.0.slot f.0 f.2.alone) m.driver (m.driver, m.fact)
+    let m = mover p h e w false (λ t. InSlot t × (drive h (Slot t) w ≡ true)) f.0.slot was (silent_on version p ok (e ∷ h) legal f.0.slot w high) (in_slot p ok f.0.slot f.0 f.2.alone, was) in
+    is_by e (λ t. (is_same_driver e.driver (Slot t) ≡ true) × (drive h (Slot t) w ≡ true)) m.slot m.fact.0 m.driver (m.driver, m.fact.1)
 
 module _ (probed : Probed) (p : Plan) (ok : IsAccepted p) (pins : List Pin) (h : List Edge) (e : Edge) (v : Change) (legal : IsLegal probed.version p (e ∷ h)) (s : seen p pins h e ≡ Some v) (st : Standings) (covers : Covers p pins h st) where
   abbrev version : Version
@@ -378,7 +381,7 @@ module _ (probed : Probed) (p : Plan) (ok : IsAccepted p) (pins : List Pin) (h :
           b.phases b.addressers b.answerers b.fronts b.requests;
     }
       where
-        abbrev levels : (line p h wire.DataStrobe ≡ true) × (line p (e ∷ h) wire.DataStrobe ≡ false)
+        levels : (line p h wire.DataStrobe ≡ true) × (line p (e ∷ h) wire.DataStrobe ≡ false)
         levels = rose version p ok h e legal wire.DataStrobe (differs p ok pins h e v s (signal.Line on_line.DataStrobe) is) (way p ok pins h e v s false fall)
 
         able : (a b c x y : Bool) → (x || y) ≡ true → a ≡ x → b ≡ y → c ≡ true → ((a || b) && c) ≡ true
@@ -397,3 +400,176 @@ module _ (probed : Probed) (p : Plan) (ok : IsAccepted p) (pins : List Pin) (h :
                   (covers.levels.shared on_line.Dtack refl) (covers.levels.shared on_line.Berr refl)
                   (covers.addressers by.slot (data_within p h (goes version p ok h legal.1) by.slot by.fact.1).0);
             }
+
+  -- BCLR*
+  module _ (is : v.signal ≡ signal.Line on_line.Bclr) where
+    clear_wire : e.wire ≡ wire.Bclr
+    clear_wire = one_wire on_line.Bclr wire.Bclr e.wire (board_of p e.driver) refl refl (line_is p pins h e v s on_line.Bclr is)
+
+    abbrev now : GrantPhases → GrantPhase → Bool → Bool
+    now old q f = has_phase old q && are_alike (is_clear_due p (asked st.lines) q) f
+
+    clear_rest : (f : Bool) (val : Option Value) → v.fall ≡ f → (new : Standings) → IsBehind p probed st (record { signal = signal.Line on_line.Bclr; fall = f; value = val }) new
+        → new.shown ≡ st.shown → new.strobed ≡ st.strobed → HasExactly new.phases (λ q. now st.phases q f) → new.addressers ≡ st.addressers → new.answerers ≡ st.answerers → new.fronts ≡ st.fronts → new.requests ≡ st.requests → Covers p pins (e ∷ h) new
+    clear_rest f val fall new b a1 a2 exact a4 a5 a6 a7 =
+        let w = clear_wire in
+        record {
+          levels = levels_now (signal.Line on_line.Bclr) f val is fall new b;
+          shown = kept_shown new.shown a1 (λ y. absurd (cc (w, y)));
+          strobed = kept_strobed new.strobed a2 (λ y. absurd (cc (w, y))) (λ y. absurd (cc (w, y)));
+          phases = cleared_covers version p ok pins h e v legal s st.phases covers.phases is (asked st.lines) asked_now new.phases (subst (λ g. HasExactly new.phases (λ q. now st.phases q g)) (sym fall) exact);
+          addressers = kept_drivers wire.AddressStrobe new.addressers st.addressers a4 covers.addressers (λ y. absurd (cc (w, y)));
+          answerers = kept_drivers wire.Dtack new.answerers st.answerers a5 covers.answerers (λ y. absurd (cc (w, y)));
+          fronts = kept_fronts new.fronts a6 (λ y. absurd (cc (w, y))) (λ y. absurd (cc (w, y))) (λ y. absurd (cc (w, y)));
+          requests = kept_requests new.requests a7 (λ y. absurd (cc (w, y))) (λ y. absurd (cc (w, y)));
+        }
+
+    clear_by : (f : Bool) → v.fall ≡ f → (can : Bool) → CanClear p (asked st.lines) f st.phases can → can ≡ true
+    clear_by f fall can c =
+        c.all covers.phases.phase (in_table version p ok h legal.1 covers.phases.phase covers.phases.is_in) covers.phases.member
+        (ap (λ g. are_alike (is_clear_due p (asked st.lines) covers.phases.phase) g) (sym fall)
+        ∙ cleared_able version p ok pins h e v legal s st.phases covers.phases is (asked st.lines) asked_now)
+
+    clear_driver : e.driver ≡ Controller
+    clear_driver = cleared_by version p ok pins h e v legal s is
+
+    pub clear_falls : (val : Option Value) → v.fall ≡ true → Step (signal.Line on_line.Bclr) true val
+    clear_falls val fall = record {
+      by = λ d a. by_controller d clear_driver (clear_by true fall d.controller a.controller);
+      covers = λ new b. clear_rest true val fall new b b.shown b.strobed b.phases b.addressers b.answerers b.fronts b.requests;
+    }
+
+    pub clear_rises : (val : Option Value) → v.fall ≡ false → Step (signal.Line on_line.Bclr) false val
+    clear_rises val fall = record {
+      by = λ d a. by_controller d clear_driver (clear_by false fall d.controller a.controller);
+      covers = λ new b. clear_rest false val fall new b b.shown b.strobed b.phases b.addressers b.answerers b.fronts b.requests;
+    }
+
+  -- AS* rises
+  module _ (is : v.signal ≡ signal.Line on_line.AddressStrobe) (fall : v.fall ≡ false) where
+    strobe_wire : e.wire ≡ wire.AddressStrobe
+    strobe_wire = one_wire on_line.AddressStrobe wire.AddressStrobe e.wire (board_of p e.driver) refl refl (line_is p pins h e v s on_line.AddressStrobe is)
+
+    strobe_levels : (line p h wire.AddressStrobe ≡ true) × (line p (e ∷ h) wire.AddressStrobe ≡ false)
+    strobe_levels = rose version p ok h e legal wire.AddressStrobe (differs p ok pins h e v s (signal.Line on_line.AddressStrobe) is) (way p ok pins h e v s false fall)
+
+    -- the cycle is over
+    over : Going p h → (t : ℕ) → drive h (Slot t) wire.AddressStrobe ≡ true → drive h (Slot t) wire.Addr ≡ false → (has_strobed h (Slot t) ≡ true) × ((u : ℕ) → drive h (Slot u) wire.DataStrobe ≡ false)
+    over (Quiet, i) t on off = absurd (never (drive h (Slot t) wire.AddressStrobe) on (i.strobe_high t))
+    over (Fresh m, i) t on off = absurd (never (drive h (Slot m) wire.Addr) i.group_on (subst (λ x. drive h (Slot x) wire.Addr ≡ false) (i.opened.strobe_only t on) off))
+    over (Asking m g hi, i) t on off = absurd (never (drive h (Slot m) wire.Addr) i.group_on (subst (λ x. drive h (Slot x) wire.Addr ≡ false) (i.opened.strobe_only t on) off))
+    over (Done m, i) t on off = (subst (λ x. has_strobed h (Slot x) ≡ true) (sym (i.opened.strobe_only t on)) i.was_strobed, i.dstrobe_high)
+
+    strobe_ends : IsBy e (λ t. (can_end st && has st.addressers t) ≡ true)
+    strobe_ends =
+        let by = rise_moves version p ok h e legal wire.AddressStrobe strobe_levels.0 strobe_levels.1 in
+        let rule = (passed_as version p h e by.slot wire.AddressStrobe false legal by.fact.0 strobe_wire (way p ok pins h e v s false fall)).rule in
+        let o = over (goes version p ok h legal.1) by.slot by.fact.1 (not_true (drive h (Slot by.slot) wire.Addr) rule) in
+        record {
+          slot = by.slot;
+          positive = by.positive;
+          near = by.near;
+          driver = by.driver;
+          fact = able st.strobed (is_left_low st on_line.DataStrobe) (has st.addressers by.slot) (covers.strobed by.slot by.fact.1 ∙ o.0)
+              (covers.levels.shared on_line.DataStrobe refl ∙ is_false (line p h wire.DataStrobe) (λ low. let t = driven_by version p ok h wire.DataStrobe low in never (drive h (Slot t.0) wire.DataStrobe) t.1 (o.1 t.0)))
+              (covers.addressers by.slot by.fact.1);
+        }
+      where
+        able : (a b c : Bool) → a ≡ true → b ≡ false → c ≡ true → ((a && not b) && c) ≡ true
+        able a b c f g i = grind arith
+
+    pub strobe_goes_up : (val : Option Value) → Step (signal.Line on_line.AddressStrobe) false val
+    strobe_goes_up val = record {
+      by = λ d a. by_board d strobe_ends.slot strobe_ends.driver (a.boards strobe_ends.slot ∙ strobe_ends.fact);
+      covers = λ new b.
+          let w = strobe_wire in
+          record {
+            levels = levels_now (signal.Line on_line.AddressStrobe) false val is fall new b;
+            shown = record {
+              high = λ off. b.shown;
+              low = λ on. absurd (never (line p (e ∷ h) wire.AddressStrobe) on strobe_levels.1);
+              shown = λ c on shows. absurd (never (line p (e ∷ h) wire.AddressStrobe) on strobe_levels.1);
+            };
+            strobed = λ t low. absurd (never (drive (e ∷ h) (Slot t) wire.AddressStrobe) low (silent_on version p ok (e ∷ h) legal t wire.AddressStrobe strobe_levels.1));
+            phases = kept_phases new.phases b.phases (λ n y. absurd (cc (w, y))) (λ y. absurd (cc (w, y))) (λ y. absurd (cc (w, y)));
+            addressers = rise_leaves version p ok h e legal wire.AddressStrobe new.addressers strobe_levels.1;
+            answerers = kept_drivers wire.Dtack new.answerers st.answerers b.answerers covers.answerers (λ y. absurd (cc (w, y)));
+            fronts = strobe_rises version p ok pins h e v legal s new.fronts is fall;
+            requests = kept_requests new.requests b.requests (λ y. absurd (cc (w, y))) (λ y. absurd (cc (w, y)));
+          };
+    }
+
+  -- DTACK* rises
+  module _ (is : v.signal ≡ signal.Line on_line.Dtack) (fall : v.fall ≡ false) where
+    answer_wire : e.wire ≡ wire.Dtack
+    answer_wire = one_wire on_line.Dtack wire.Dtack e.wire (board_of p e.driver) refl refl (line_is p pins h e v s on_line.Dtack is)
+
+    answer_levels : (line p h wire.Dtack ≡ true) × (line p (e ∷ h) wire.Dtack ≡ false)
+    answer_levels = rose version p ok h e legal wire.Dtack (differs p ok pins h e v s (signal.Line on_line.Dtack) is) (way p ok pins h e v s false fall)
+
+    answer_ends : IsBy e (λ t. (not (is_left_low st on_line.DataStrobe) && has st.answerers t) ≡ true)
+    answer_ends =
+        let by = rise_moves version p ok h e legal wire.Dtack answer_levels.0 answer_levels.1 in
+        let rule = (passed_as version p h e by.slot wire.Dtack false legal by.fact.0 answer_wire (way p ok pins h e v s false fall)).rule in
+        record {
+          slot = by.slot;
+          positive = by.positive;
+          near = by.near;
+          driver = by.driver;
+          fact = both (not (is_left_low st on_line.DataStrobe)) (has st.answerers by.slot) (ap not (covers.levels.shared on_line.DataStrobe refl) ∙ rule) (covers.answerers by.slot by.fact.1);
+        }
+
+    pub answer_goes_up : (val : Option Value) → Step (signal.Line on_line.Dtack) false val
+    answer_goes_up val = record {
+      by = λ d a. by_board d answer_ends.slot answer_ends.driver (a.boards answer_ends.slot ∙ answer_ends.fact);
+      covers = λ new b.
+          let w = answer_wire in
+          record {
+            levels = levels_now (signal.Line on_line.Dtack) false val is fall new b;
+            shown = kept_shown new.shown b.shown (λ y. absurd (cc (w, y)));
+            strobed = kept_strobed new.strobed b.strobed (λ y. absurd (cc (w, y))) (λ y. absurd (cc (w, y)));
+            phases = kept_phases new.phases b.phases (λ n y. absurd (cc (w, y))) (λ y. absurd (cc (w, y))) (λ y. absurd (cc (w, y)));
+            addressers = kept_drivers wire.AddressStrobe new.addressers st.addressers b.addressers covers.addressers (λ y. absurd (cc (w, y)));
+            answerers = rise_leaves version p ok h e legal wire.Dtack new.answerers answer_levels.1;
+            fronts = kept_fronts new.fronts b.fronts (λ y. absurd (cc (w, y))) (λ y. absurd (cc (w, y))) (λ y. absurd (cc (w, y)));
+            requests = kept_requests new.requests b.requests (λ y. absurd (cc (w, y))) (λ y. way p ok pins h e v s false fall);
+          };
+    }
+
+  -- the edge passed its tests, by its parts
+  pub passed_by : (d : Driver) (w : Wire) (f : Bool) → e.driver ≡ d → e.wire ≡ w → v.fall ≡ f → Passed version p h d w f e.value
+  passed_by d w f driver is fall =
+      subst (λ g. Passed version p h d w g e.value) (way p ok pins h e v s f fall)
+      (subst (λ x. Passed version p h d x e.fall e.value) is
+      (subst (λ x. Passed version p h x e.wire e.fall e.value) driver
+      (all_passed version p h e.driver e.wire e.fall e.value legal.0)))
+
+  -- BERR*
+  module _ (is : v.signal ≡ signal.Line on_line.Berr) where
+    abbrev pub error_now : (e.driver ≡ Controller) × (e.wire ≡ wire.Berr)
+    error_now = error_is version p ok pins h e v legal s is
+
+    pub error_rest : (f : Bool) (val : Option Value) → v.fall ≡ f → (new : Standings) → IsBehind p probed st (record { signal = signal.Line on_line.Berr; fall = f; value = val }) new
+        → new.shown ≡ st.shown → new.strobed ≡ st.strobed → new.phases ≡ st.phases → new.addressers ≡ st.addressers → new.answerers ≡ st.answerers → CoversFronts p (e ∷ h) new.fronts → new.requests ≡ st.requests → Covers p pins (e ∷ h) new
+    error_rest f val fall new b a1 a2 a3 a4 a5 fronts a7 =
+        let w = error_now.1 in
+        record {
+          levels = levels_now (signal.Line on_line.Berr) f val is fall new b;
+          shown = kept_shown new.shown a1 (λ y. absurd (cc (w, y)));
+          strobed = kept_strobed new.strobed a2 (λ y. absurd (cc (w, y))) (λ y. absurd (cc (w, y)));
+          phases = kept_phases new.phases a3 (λ n y. absurd (cc (w, y))) (λ y. absurd (cc (w, y))) (λ y. absurd (cc (w, y)));
+          addressers = kept_drivers wire.AddressStrobe new.addressers st.addressers a4 covers.addressers (λ y. absurd (cc (w, y)));
+          answerers = kept_drivers wire.Dtack new.answerers st.answerers a5 covers.answerers (λ y. absurd (cc (w, y)));
+          fronts = fronts;
+          requests = kept_requests new.requests a7 (λ y. absurd (cc (w, y))) (λ y. absurd (cc (w, y)));
+        }
+
+    pub error_rises : (val : Option Value) → v.fall ≡ false → Step (signal.Line on_line.Berr) false val
+    error_rises val fall = record {
+      by = λ d a. by_controller d error_now.0
+          (a.controller ∙ ap not (covers.levels.shared on_line.DataStrobe refl) ∙ (passed_by Controller wire.Berr false error_now.0 error_now.1 fall).rule);
+      covers = λ new b.
+          error_rest false val fall new b b.shown b.strobed b.phases b.addressers b.answerers
+          (kept_fronts new.fronts b.fronts (λ y. absurd (cc (error_now.1, y))) (λ y. absurd (cc (error_now.1, y))) (λ y. absurd (cc (error_now.1, y))))
+          b.requests;
+    }

@@ -66,6 +66,8 @@ pub mod JoinedLevels
 pub mod JoinedCycle
 -- how the levels that the probes see move with an edge: `joined_laws`
 pub mod JoinedSegments
+-- the hidden moves, and an edge that no probe sees: `joined_laws`
+pub mod JoinedHidden
 -- what is known of the whole bus, behind a change that is seen: `joined_laws`
 pub mod JoinedSeen
 -- what is known at the beginning covers the bus: `joined_laws`
