@@ -70,5 +70,9 @@ pub mod JoinedSegments
 pub mod JoinedHidden
 -- what is known of the whole bus, behind a change that is seen: `joined_laws`
 pub mod JoinedSeen
+-- what is known of the whole bus, behind a change of a grant chain: `joined_laws`
+pub mod JoinedGrants
+-- what is known of the whole bus, behind a change of the acknowledge chain: `joined_laws`
+pub mod JoinedPasses
 -- what is known at the beginning covers the bus: `joined_laws`
 pub mod JoinedBegins

@@ -1,5 +1,7 @@
 use Rattle.vme_standings.proofs.JoinedBegins.{power_up}
+use Rattle.vme_standings.proofs.JoinedGrants.{grant_falls}
 use Rattle.vme_standings.proofs.JoinedHidden.{moved_covers, unseen_covered}
+use Rattle.vme_standings.proofs.JoinedPasses.{pass_falls}
 use Rattle.vme_standings.proofs.JoinedSeen.{request_falls}
 use Rattle.vme_standings.proofs.joined_laws.the_bus_stays_covered.Goals as goal
 
