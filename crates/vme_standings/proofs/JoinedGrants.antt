@@ -36,7 +36,7 @@ use Rattle.vme_standings.proofs.GrantRows.{grant_able, grant_covers, pass_able, 
 use Rattle.vme_standings.proofs.JoinedSeen.{IsStep, Step, asked_now, by_board, by_controller, kept_drivers, kept_fronts, kept_requests, kept_shown, kept_strobed, levels_now}
 use Rattle.vme_standings.proofs.Tests.{both}
 
-self_board : (t : ℕ) → is_board_at (suc t) (suc t) ≡ true
+pub self_board : (t : ℕ) → is_board_at (suc t) (suc t) ≡ true
 self_board t = both (nat_lt 0 (suc t)) (suc t == suc t) (above t) (self (suc t))
   where
     above : (t : ℕ) → nat_lt 0 (suc t) ≡ true

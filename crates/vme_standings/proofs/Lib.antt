@@ -74,5 +74,7 @@ pub mod JoinedSeen
 pub mod JoinedGrants
 -- what is known of the whole bus, behind a change of the acknowledge chain: `joined_laws`
 pub mod JoinedPasses
+-- what is known of the whole bus, behind a fall of DTACK*: `joined_laws`
+pub mod JoinedAnswers
 -- what is known at the beginning covers the bus: `joined_laws`
 pub mod JoinedBegins

@@ -1,3 +1,4 @@
+use Rattle.vme_standings.proofs.JoinedAnswers.{answer_falls}
 use Rattle.vme_standings.proofs.JoinedBegins.{power_up}
 use Rattle.vme_standings.proofs.JoinedGrants.{grant_falls}
 use Rattle.vme_standings.proofs.JoinedHidden.{moved_covers, unseen_covered}
