@@ -151,7 +151,7 @@ module _ (p : Plan) (ok : IsAccepted p) where
 
   module _ (pins : List Pin) where
     -- a probed segment is one that its chain has
-    probed_works : (c : ChainId) (t : ℕ) → is_probed p pins c (suc t) ≡ true → is_active p.rows c (suc t) ≡ true
+    pub probed_works : (c : ChainId) (t : ℕ) → is_probed p pins c (suc t) ≡ true → is_active p.rows c (suc t) ≡ true
     probed_works c t on = by_pin (pin_on p pins (segment_at c (suc t))) refl on
       where
         by_pin : (o : Option Pin) → pin_on p pins (segment_at c (suc t)) ≡ o → is_some o ≡ true → is_active p.rows c (suc t) ≡ true

@@ -76,5 +76,11 @@ pub mod JoinedGrants
 pub mod JoinedPasses
 -- what is known of the whole bus, behind a fall of DTACK*: `joined_laws`
 pub mod JoinedAnswers
+-- what is shown on a bus that keeps the rules: `joined_laws`
+pub mod JoinedShows
+-- what is known of the whole bus, behind a fall of AS*: `joined_laws`
+pub mod JoinedStarts
+-- what is known of the whole bus, behind a fall of BERR*: `joined_laws`
+pub mod JoinedErrors
 -- what is known at the beginning covers the bus: `joined_laws`
 pub mod JoinedBegins

@@ -1,9 +1,11 @@
 use Rattle.vme_standings.proofs.JoinedAnswers.{answer_falls}
 use Rattle.vme_standings.proofs.JoinedBegins.{power_up}
 use Rattle.vme_standings.proofs.JoinedGrants.{grant_falls}
+use Rattle.vme_standings.proofs.JoinedErrors.{error_falls}
 use Rattle.vme_standings.proofs.JoinedHidden.{moved_covers, unseen_covered}
 use Rattle.vme_standings.proofs.JoinedPasses.{pass_falls}
 use Rattle.vme_standings.proofs.JoinedSeen.{request_falls}
+use Rattle.vme_standings.proofs.JoinedStarts.{strobe_goes_down}
 use Rattle.vme_standings.proofs.joined_laws.the_bus_stays_covered.Goals as goal
 
 pub returns : goal.returns
