@@ -82,5 +82,7 @@ pub mod JoinedShows
 pub mod JoinedStarts
 -- what is known of the whole bus, behind a fall of BERR*: `joined_laws`
 pub mod JoinedErrors
+-- what is known of the whole bus, behind each change that is seen: `joined_laws`
+pub mod JoinedRows
 -- what is known at the beginning covers the bus: `joined_laws`
 pub mod JoinedBegins

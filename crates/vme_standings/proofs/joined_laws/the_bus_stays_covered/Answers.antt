@@ -1,11 +1,6 @@
-use Rattle.vme_standings.proofs.JoinedAnswers.{answer_falls}
 use Rattle.vme_standings.proofs.JoinedBegins.{power_up}
-use Rattle.vme_standings.proofs.JoinedGrants.{grant_falls}
-use Rattle.vme_standings.proofs.JoinedErrors.{error_falls}
 use Rattle.vme_standings.proofs.JoinedHidden.{moved_covers, unseen_covered}
-use Rattle.vme_standings.proofs.JoinedPasses.{pass_falls}
-use Rattle.vme_standings.proofs.JoinedSeen.{request_falls}
-use Rattle.vme_standings.proofs.JoinedStarts.{strobe_goes_down}
+use Rattle.vme_standings.proofs.JoinedRows.{seen_step, somebody}
 use Rattle.vme_standings.proofs.joined_laws.the_bus_stays_covered.Goals as goal
 
 pub returns : goal.returns
@@ -13,4 +8,8 @@ returns c = record {
   power_up = λ p pins new ok up. power_up p pins new ok up;
   moves = λ p pins probed h old new ok legal moved covers. moved_covers p ok probed pins old new moved h legal covers;
   unseen = λ p pins probed h e old new ok probes legal none moved covers. unseen_covered p ok probed pins old new moved h probes e legal none covers;
+  made_by = λ p pins probed h e v change old d ok legal s agree covers drivers.
+      let among = (seen_step probed p ok pins h e v legal s old covers change agree).by d drivers in
+      (somebody d e.driver among, among);
+  seen = λ p pins probed h e v change old new ok legal s agree covers behind. (seen_step probed p ok pins h e v legal s old covers change agree).covers new behind;
 }
