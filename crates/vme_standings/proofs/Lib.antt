@@ -84,5 +84,9 @@ pub mod JoinedStarts
 pub mod JoinedErrors
 -- what is known of the whole bus, behind each change that is seen: `joined_laws`
 pub mod JoinedRows
+-- edge by edge, every list that shows a capture is covered: `joined_laws`
+pub mod JoinedLists
+-- what is known of a running bus covers it: `joined_laws`
+pub mod JoinedRuns
 -- what is known at the beginning covers the bus: `joined_laws`
 pub mod JoinedBegins

@@ -51,3 +51,5 @@ pub mod Unions
 pub mod InPhase
 -- believe: when all that is known of a bus covers it
 pub mod Covers
+-- words: what the calls of `Standings` make of the changes of a capture
+pub mod Following
