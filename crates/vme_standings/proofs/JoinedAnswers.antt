@@ -1,6 +1,6 @@
 -- What is known of the whole bus covers it behind a fall of DTACK*, and whoever made it is among
 -- those who may have.
-use Rattle.std.proofs.Common.{◌≡◌, ◌≢◌, ◌∙◌, refl, sym, ap, subst, ℕ, zero, suc, Bool, true, false, List, [], ◌∷◌, ◌<◌, ◌≤◌, arith}
+use Rattle.std.proofs.Common.{◌≡◌, ◌∙◌, refl, sym, ap, subst, ℕ, Bool, true, false, List, [], ◌∷◌, ◌<◌, arith}
 use Rattle.std.specs.Prelude.{◌==◌, ◌&&◌, find, if◌then◌else◌, not, Option, Some, None, is_some, option_map}
 use Rattle.std.specs.Option.{option_and_then, option_map_or}
 use Rattle.std.proofs.lemmas.Bool.Decides.{nat_tests}
@@ -10,7 +10,6 @@ use Rattle.vme_model.specs.declared.deliveries.Delivery.{Delivery}
 use Rattle.vme_model.specs.declared.signals.Version.{Version}
 use Rattle.vme_model.specs.declared.signals.Cycle.{Cycle}
 use Rattle.vme_model.specs.declared.signals.Cycle.TheVariants as cycle
-use Rattle.vme_model.specs.declared.signals.Driver.{Driver}
 use Rattle.vme_model.specs.declared.signals.Driver.TheVariants.{Controller, Slot}
 use Rattle.vme_model.specs.declared.signals.Wire.TheVariants as wire
 use Rattle.vme_model.specs.declared.signals.Edge.{Edge}
@@ -18,10 +17,10 @@ use Rattle.vme_model.specs.Signals.{is_edge_of, is_same_driver, is_same_wire}
 use Rattle.vme_model.specs.Plan.{Plan, board, board_of}
 use Rattle.vme_model.specs.Accepted.{IsAccepted}
 use Rattle.vme_model.specs.CycleSafety.{OneAnswers}
-use Rattle.vme_model.specs.Deliveries.{delivered_by, delivery}
+use Rattle.vme_model.specs.Deliveries.{delivered_by}
 use Rattle.vme_model.specs.History.{addressing, drive, line, shown}
 use Rattle.vme_model.specs.Verdict.{IsLegal}
-use Rattle.vme_model.proofs.Bools.{and_left, and_right, same_number}
+use Rattle.vme_model.proofs.Bools.{and_left, same_number}
 use Rattle.vme_model.proofs.Safety.{legal_is_orderly}
 use Rattle.vme_histories.proofs.Drivers.{standing}
 use Rattle.vme_histories.proofs.Others.{same_wire}
@@ -39,15 +38,14 @@ use Rattle.vme_standings.specs.declared.fronts.Fronts.{Fronts}
 use Rattle.vme_standings.specs.declared.interrupters.Interrupters.TheVariants.{WithStatus}
 use Rattle.vme_standings.specs.declared.requests.Request.TheVariants.{Pending}
 use Rattle.vme_standings.specs.declared.requests.Requests.{Requests}
-use Rattle.vme_standings.specs.declared.standings.Drivers.{Drivers}
 use Rattle.vme_standings.specs.declared.standings.Probed.{Probed}
 use Rattle.vme_standings.specs.declared.standings.Shown.{Shown}
 use Rattle.vme_standings.specs.declared.standings.Shown.TheVariants as known
 use Rattle.vme_standings.specs.declared.standings.Standings.{Standings}
-use Rattle.vme_standings.specs.Behind.{AreRoak, AreRora, FrontsAnswered, IsBehind, RequestsAnswered, ServedByAccess, ServedIn}
+use Rattle.vme_standings.specs.Behind.{AreRoak, AreRora, FrontsAnswered, RequestsAnswered, ServedByAccess, ServedIn}
 use Rattle.vme_standings.specs.Boards.{only_board}
-use Rattle.vme_standings.specs.Covers.{Among, Covers, says}
-use Rattle.vme_standings.specs.Driving.{AnswersShown, AreAnswerers, AreDrivers, is_left_low, may_answer_with}
+use Rattle.vme_standings.specs.Covers.{Covers, says}
+use Rattle.vme_standings.specs.Driving.{AnswersShown, AreAnswerers, is_left_low, may_answer_with}
 use Rattle.vme_standings.specs.FrontCovers.{CoversFronts}
 use Rattle.vme_standings.specs.Fronts.{Reaches, input_place, is_reached}
 use Rattle.vme_standings.specs.Interrupters.{is_meant, is_meant_at, is_such}
@@ -56,12 +54,12 @@ use Rattle.vme_standings.specs.RequestSets.{Accessed, Acknowledged, AnyAccessed,
 use Rattle.vme_standings.proofs.FrontSeen.{answer_by, answer_keeps}
 use Rattle.vme_standings.proofs.JoinedCycle.{IsAsked, is_asked}
 use Rattle.vme_standings.proofs.JoinedLevels.{drive_stays}
-use Rattle.vme_standings.proofs.JoinedSeen.{IsStep, Step, by_board, kept_drivers, kept_fronts, kept_phases, kept_shown, kept_strobed, levels_now}
+use Rattle.vme_standings.proofs.JoinedSeen.{Step, by_board, kept_drivers, kept_fronts, kept_phases, kept_shown, kept_strobed, levels_now}
 use Rattle.vme_standings.proofs.RequestLaws.{access_by, access_keeps, acknowledge_by, acknowledge_keeps, any_access_keeps}
-use Rattle.vme_standings.proofs.RequestRows.{Anybody, MovedBy, dtack_fell, one_slot, passed_as}
+use Rattle.vme_standings.proofs.RequestRows.{Anybody, MovedBy, dtack_fell, passed_as}
 use Rattle.vme_standings.proofs.RequestSteps.{same_driver}
 use Rattle.vme_standings.proofs.SeenLines.{dtack_falls}
-use Rattle.vme_standings.proofs.Tests.{both, is_false, never}
+use Rattle.vme_standings.proofs.Tests.{both, is_false}
 use Rattle.vme_standings.proofs.WhoDrives.{fall_leaves}
 
 -- what is seen with an edge

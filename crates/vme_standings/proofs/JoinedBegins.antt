@@ -1,27 +1,20 @@
 -- What is known at the beginning covers the bus.
-use Rattle.std.proofs.Common.{◌≡◌, ◌∙◌, refl, sym, ap, subst, ℕ, zero, suc, Bool, true, false, List, [], ◌∷◌, ◌<◌, arith}
-use Rattle.std.specs.Prelude.{◌&&◌, ◌||◌, Option, Some, None, is_some}
+use Rattle.std.proofs.Common.{◌≡◌, ◌∙◌, refl, sym, ℕ, zero, suc, Bool, true, false, List, [], ◌∷◌, arith}
+use Rattle.std.specs.Prelude.{◌&&◌, ◌||◌}
 use Rattle.std.specs.List.{list_any}
 use Rattle.vme_model.specs.declared.boards.Row.{Row}
 use Rattle.vme_model.specs.declared.sets.ChainId.{ChainId}
-use Rattle.vme_model.specs.declared.sets.ChainId.TheVariants as chain
-use Rattle.vme_model.specs.declared.signals.Cycle.{Cycle}
-use Rattle.vme_model.specs.declared.signals.Driver.TheVariants.{Controller, Slot}
-use Rattle.vme_model.specs.declared.signals.Wire.{Wire}
 use Rattle.vme_model.specs.declared.signals.Wire.TheVariants as wire
-use Rattle.vme_model.specs.declared.signals.Edge.{Edge}
 use Rattle.vme_model.specs.Plan.{Plan, drives, interrupts_on, requests_on}
 use Rattle.vme_model.specs.Accepted.{IsAccepted}
-use Rattle.vme_model.specs.History.{drive, line}
+use Rattle.vme_model.specs.History.{line}
 use Rattle.vme_captures.specs.declared.signals.Line.{Line}
 use Rattle.vme_captures.specs.declared.signals.Line.TheVariants as on_line
 use Rattle.vme_captures.specs.declared.signals.Pin.{Pin}
 use Rattle.vme_captures.specs.Changes.{is_line_low}
 use Rattle.vme_standings.specs.declared.phases.GrantPhase.TheVariants.{Idle}
-use Rattle.vme_standings.specs.declared.requests.Request.TheVariants.{High}
 use Rattle.vme_standings.specs.declared.standings.Standings.{Standings}
 use Rattle.vme_standings.specs.Covers.{Covers, is_probed, is_segment_low}
-use Rattle.vme_standings.specs.Requests.{is_interrupter}
 use Rattle.vme_standings.specs.Running.{IsPowerUp}
 use Rattle.vme_standings.proofs.FrontLaws.{any_meant, beginning_covers}
 use Rattle.vme_standings.proofs.PhaseSteps.{begins_idle}

@@ -1,22 +1,19 @@
 -- What is known of a cycle, behind an edge: what is shown, and whether DS* fell.
-use Rattle.std.proofs.Common.{◌≡◌, ◌∙◌, refl, sym, ap, subst, ℕ, Bool, true, false, List, [], ◌∷◌, arith}
-use Rattle.std.specs.Prelude.{◌==◌, ◌&&◌, ◌||◌, not, if◌then◌else◌, Option, Some, None, is_some, option_map}
-use Rattle.std.specs.Option.{option_and_then, option_map_or}
-use Rattle.std.proofs.lemmas.Bool.Decides.{nat_tests}
+use Rattle.std.proofs.Common.{◌≡◌, ◌∙◌, refl, sym, subst, ℕ, Bool, true, false, List, [], ◌∷◌}
+use Rattle.std.specs.Prelude.{not, Option, Some, None}
 use Rattle.vme_model.specs.declared.signals.Version.{Version}
 use Rattle.vme_model.specs.declared.signals.Cycle.{Cycle}
-use Rattle.vme_model.specs.declared.signals.Cycle.TheVariants as cycle
 use Rattle.vme_model.specs.declared.signals.Driver.{Driver}
 use Rattle.vme_model.specs.declared.signals.Driver.TheVariants.{Controller, Slot}
 use Rattle.vme_model.specs.declared.signals.Wire.{Wire}
 use Rattle.vme_model.specs.declared.signals.Wire.TheVariants as wire
 use Rattle.vme_model.specs.declared.signals.Edge.{Edge}
-use Rattle.vme_model.specs.Signals.{has_value, is_edge_of}
+use Rattle.vme_model.specs.Signals.{has_value}
 use Rattle.vme_model.specs.Plan.{Plan}
 use Rattle.vme_model.specs.Accepted.{IsAccepted}
-use Rattle.vme_model.specs.History.{drive, has_strobed, line, shown}
+use Rattle.vme_model.specs.History.{drive, line, shown}
 use Rattle.vme_model.specs.Verdict.{IsLegal}
-use Rattle.vme_model.proofs.Bools.{and_left, and_right, not_true, same_number}
+use Rattle.vme_model.proofs.Bools.{and_left, and_right, not_true}
 use Rattle.vme_model.proofs.AllowedEdges.{all_passed}
 use Rattle.vme_model.proofs.CyclePhases.{Quiet, Fresh, Asking, Done}
 use Rattle.vme_model.proofs.Cycles.{Going, going_of, line_from}
@@ -24,21 +21,14 @@ use Rattle.vme_model.proofs.Ranges.{in_range}
 use Rattle.vme_histories.proofs.Addressing.{one_addresses, showing}
 use Rattle.vme_histories.proofs.AllowedBoards.{at, driven, own_after, stands}
 use Rattle.vme_histories.proofs.Drivers.{standing}
-use Rattle.vme_histories.proofs.Others.{drive_same}
-use Rattle.vme_captures.specs.declared.signals.Change.{Change}
 use Rattle.vme_captures.specs.declared.signals.Line.TheVariants as on_line
 use Rattle.vme_captures.specs.declared.signals.Pin.{Pin}
-use Rattle.vme_captures.specs.declared.signals.Signal.{Signal}
-use Rattle.vme_captures.specs.declared.signals.Value.{Value}
-use Rattle.vme_captures.specs.declared.signals.Value.TheVariants as value
-use Rattle.vme_captures.specs.Changes.{are_values_of, change_of, differ, is_low, seen, signal_of, value_at}
+use Rattle.vme_captures.specs.Changes.{seen}
 use Rattle.vme_standings.specs.declared.standings.Shown.{Shown}
-use Rattle.vme_standings.specs.declared.standings.Shown.TheVariants as known
-use Rattle.vme_standings.specs.Behind.{shown_of}
-use Rattle.vme_standings.specs.Covers.{KnowsShown, KnowsStrobed, says}
+use Rattle.vme_standings.specs.Covers.{KnowsShown, KnowsStrobed}
 use Rattle.vme_standings.proofs.JoinedLevels.{drive_shrinks, lines_stay}
 use Rattle.vme_standings.proofs.Tests.{never}
-use Rattle.vme_standings.proofs.WhoDrives.{line_shows, silent_on}
+use Rattle.vme_standings.proofs.WhoDrives.{line_shows}
 
 -- one board at a time drives AS*, and one DS*, within its AS* and with its address on
 module _ (p : Plan) (h : List Edge) where

@@ -1,14 +1,13 @@
 -- What is known of the whole bus covers it behind a fall of BERR*, which the controller may have
 -- made.
-use Rattle.std.proofs.Common.{◌≡◌, ◌≢◌, ◌∙◌, refl, sym, ap, subst, ℕ, zero, suc, Bool, true, false, List, [], ◌∷◌, ◌<◌, ◌≤◌, arith, length, map, eqb}
-use Rattle.std.specs.Prelude.{◌==◌, ◌&&◌, ◌||◌, filter, find, if◌then◌else◌, nat_lt, not, Option, Some, None, is_none, is_some}
+use Rattle.std.proofs.Common.{◌≡◌, ◌∙◌, refl, sym, ap, subst, ℕ, suc, Bool, true, false, List, [], ◌∷◌, ◌<◌, ◌≤◌, arith, length, eqb}
+use Rattle.std.specs.Prelude.{◌==◌, ◌&&◌, ◌||◌, filter, if◌then◌else◌, nat_lt, not, Option, Some, None, is_none, is_some}
 use Rattle.std.specs.List.{list_any, All, AllByRecursion, IsDistinct}
 use Rattle.std.specs.Option.{option_map_or}
 use Rattle.std.proofs.lemmas.Bool.Decides.{nat_tests}
 use Rattle.std.proofs.lemmas.List.Elements.{All-head, All-tail}
 use Rattle.std.proofs.lemmas.Map.Steps.{length-le_from_distinct_below}
 use Rattle.vme_model.specs.declared.boards.Row.{Row}
-use Rattle.vme_model.specs.declared.sets.ChainId.TheVariants as chain
 use Rattle.vme_model.specs.declared.signals.Version.{Version}
 use Rattle.vme_model.specs.declared.signals.Cycle.{Cycle}
 use Rattle.vme_model.specs.declared.signals.Cycle.TheVariants as cycle
@@ -16,7 +15,7 @@ use Rattle.vme_model.specs.declared.signals.Driver.TheVariants.{Controller, Slot
 use Rattle.vme_model.specs.declared.signals.Wire.TheVariants as wire
 use Rattle.vme_model.specs.declared.signals.Edge.{Edge}
 use Rattle.vme_model.specs.Signals.{is_in_range, is_slot}
-use Rattle.vme_model.specs.Plan.{Plan, board, last_active, upstream}
+use Rattle.vme_model.specs.Plan.{Plan, board}
 use Rattle.vme_model.specs.Accepted.{IsAccepted}
 use Rattle.vme_model.specs.History.{drive, line, shown}
 use Rattle.vme_model.specs.Settling.{is_unanswerable}
@@ -34,19 +33,18 @@ use Rattle.vme_captures.specs.declared.signals.Signal.TheVariants as signal
 use Rattle.vme_captures.specs.declared.signals.Value.{Value}
 use Rattle.vme_captures.specs.Changes.{seen}
 use Rattle.vme_standings.specs.declared.fronts.Fronts.{Fronts}
-use Rattle.vme_standings.specs.declared.standings.Drivers.{Drivers}
 use Rattle.vme_standings.specs.declared.standings.Probed.{Probed}
 use Rattle.vme_standings.specs.declared.standings.Shown.{Shown}
 use Rattle.vme_standings.specs.declared.standings.Shown.TheVariants as known
 use Rattle.vme_standings.specs.declared.standings.Standings.{Standings}
-use Rattle.vme_standings.specs.Behind.{FrontsTimedOut, IsBehind}
-use Rattle.vme_standings.specs.Covers.{Among, Covers, says}
-use Rattle.vme_standings.specs.Driving.{AreDrivers, can_time_out, is_left_low, last_place, nobody_answers}
+use Rattle.vme_standings.specs.Behind.{FrontsTimedOut}
+use Rattle.vme_standings.specs.Covers.{Covers, says}
+use Rattle.vme_standings.specs.Driving.{can_time_out, is_left_low, last_place, nobody_answers}
 use Rattle.vme_standings.specs.FrontCovers.{CoversFronts, last_place as end_of_chain}
-use Rattle.vme_standings.specs.Fronts.{EndsAt, place_of}
+use Rattle.vme_standings.specs.Fronts.{place_of}
 use Rattle.vme_standings.proofs.FrontSeen.{error_at_end, error_keeps}
 use Rattle.vme_standings.proofs.JoinedCycle.{data_within, driven_by, goes}
-use Rattle.vme_standings.proofs.JoinedSeen.{IsStep, Step, by_controller, error_now, error_rest, kept_fronts, passed_by}
+use Rattle.vme_standings.proofs.JoinedSeen.{Step, by_controller, error_now, error_rest, kept_fronts, passed_by}
 use Rattle.vme_standings.proofs.JoinedShows.{Shows, shows_at}
 use Rattle.vme_standings.proofs.WhoDrives.{line_shows}
 

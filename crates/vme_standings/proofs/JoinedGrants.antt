@@ -1,39 +1,33 @@
 -- What is known of the whole bus covers it behind a change of a segment of a grant chain, and whoever
 -- made it is among those who may have.
-use Rattle.std.proofs.Common.{◌≡◌, ◌≢◌, ◌∙◌, refl, sym, ap, subst, ℕ, zero, suc, Bool, true, false, List, ◌∷◌, ◌<◌, arith}
-use Rattle.std.specs.Prelude.{◌==◌, ◌&&◌, nat_lt, Option, Some, None}
+use Rattle.std.proofs.Common.{◌≡◌, ◌∙◌, refl, sym, ap, subst, ℕ, zero, suc, Bool, true, false, List, ◌∷◌, ◌<◌, arith}
+use Rattle.std.specs.Prelude.{◌==◌, nat_lt, Option, Some}
 use Rattle.std.proofs.lemmas.Bool.Decides.{nat_tests}
-use Rattle.vme_model.specs.declared.sets.ChainId.{ChainId}
-use Rattle.vme_model.specs.declared.sets.ChainId.TheVariants as chain
 use Rattle.vme_model.specs.declared.signals.Version.{Version}
-use Rattle.vme_model.specs.declared.signals.Driver.TheVariants.{Controller, Slot}
 use Rattle.vme_model.specs.declared.signals.Wire.{Wire}
 use Rattle.vme_model.specs.declared.signals.Wire.TheVariants as wire
 use Rattle.vme_model.specs.declared.signals.Edge.{Edge}
 use Rattle.vme_model.specs.Plan.{Plan}
 use Rattle.vme_model.specs.Accepted.{IsAccepted}
 use Rattle.vme_model.specs.Verdict.{IsLegal}
-use Rattle.vme_bus.specs.Sets.{has}
 use Rattle.vme_captures.specs.declared.signals.Change.{Change}
 use Rattle.vme_captures.specs.declared.signals.Pin.{Pin}
 use Rattle.vme_captures.specs.declared.signals.Signal.TheVariants as signal
 use Rattle.vme_captures.specs.declared.signals.Value.{Value}
 use Rattle.vme_captures.specs.Changes.{seen}
 use Rattle.vme_captures.specs.Wires.{wire_of}
-use Rattle.vme_standings.specs.declared.moving.Moved.{Moved}
 use Rattle.vme_standings.specs.declared.moving.Moved.TheVariants as moved
-use Rattle.vme_standings.specs.declared.phases.GrantPhases.{GrantPhases}
 use Rattle.vme_standings.specs.declared.standings.Drivers.{Drivers}
 use Rattle.vme_standings.specs.declared.standings.Probed.{Probed}
 use Rattle.vme_standings.specs.declared.standings.Standings.{Standings}
 use Rattle.vme_standings.specs.Behind.{AddressersBehind, AnswerersBehind, FrontsBehind, GrantFalls, IsBehind, PhasesBehind, RequestsBehind, shown_behind, strobed_behind}
 use Rattle.vme_standings.specs.Covers.{Among, Covers}
-use Rattle.vme_standings.specs.Driving.{AreDrivers, BoardsMake, ControllerMakes, can_rise, is_board_at}
+use Rattle.vme_standings.specs.Driving.{BoardsMake, ControllerMakes, can_rise, is_board_at}
 use Rattle.vme_standings.specs.Grants.{is_granted, is_passed}
 use Rattle.vme_standings.specs.InPhase.{CoversGrants, IsOfGrant, grant_segment}
 use Rattle.vme_standings.specs.Moving.{asked, moved_by}
 use Rattle.vme_standings.proofs.GrantRows.{grant_able, grant_covers, pass_able, pass_covers, rise_able, rise_covers, segment_by}
-use Rattle.vme_standings.proofs.JoinedSeen.{IsStep, Step, asked_now, by_board, by_controller, kept_drivers, kept_fronts, kept_requests, kept_shown, kept_strobed, levels_now}
+use Rattle.vme_standings.proofs.JoinedSeen.{Step, asked_now, by_board, by_controller, kept_drivers, kept_fronts, kept_requests, kept_shown, kept_strobed, levels_now}
 use Rattle.vme_standings.proofs.Tests.{both}
 
 pub self_board : (t : ℕ) → is_board_at (suc t) (suc t) ≡ true

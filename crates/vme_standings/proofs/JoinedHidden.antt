@@ -1,23 +1,21 @@
 -- The hidden moves keep the whole bus covered, and behind them so does an edge that no probe sees.
-use Rattle.std.proofs.Common.{◌≡◌, ◌≢◌, ◌∙◌, refl, sym, ap, subst, ℕ, zero, suc, Bool, true, false, List, ◌∷◌, ◌<◌, arith}
-use Rattle.std.specs.Prelude.{◌==◌, ◌&&◌, not, Option, Some, None, is_some, slice_index_or}
+use Rattle.std.proofs.Common.{◌≡◌, ◌∙◌, refl, sym, ap, subst, ℕ, zero, suc, Bool, true, false, List, ◌∷◌, ◌<◌, arith}
+use Rattle.std.specs.Prelude.{◌==◌, not, Option, Some, None, is_some, slice_index_or}
 use Rattle.std.specs.Option.{option_map_or}
 use Rattle.vme_model.specs.declared.boards.Row.{Row}
 use Rattle.vme_model.specs.declared.boards.InterrupterRow.{InterrupterRow}
-use Rattle.vme_model.specs.declared.sets.ChainId.{ChainId}
 use Rattle.vme_model.specs.declared.sets.ChainId.TheVariants as chain
 use Rattle.vme_model.specs.declared.signals.Version.{Version}
 use Rattle.vme_model.specs.declared.signals.Cycle.{Cycle}
 use Rattle.vme_model.specs.declared.signals.Cycle.TheVariants as cycle
 use Rattle.vme_model.specs.declared.signals.Wire.TheVariants as wire
 use Rattle.vme_model.specs.declared.signals.Edge.{Edge}
-use Rattle.vme_model.specs.Plan.{Plan, board, grant_chain, interrupts_on}
+use Rattle.vme_model.specs.Plan.{Plan, board, grant_chain}
 use Rattle.vme_model.specs.Accepted.{IsAccepted}
 use Rattle.vme_model.specs.History.{interrupt_line, line, shown}
 use Rattle.vme_model.specs.Verdict.{IsLegal}
-use Rattle.vme_model.proofs.Bools.{and_left, and_right, not_true, same_number}
+use Rattle.vme_model.proofs.Bools.{and_left, same_number}
 use Rattle.vme_model.proofs.PinSets.{has_bus}
-use Rattle.vme_bus.specs.declared.sets.SlotSet.{SlotSet}
 use Rattle.vme_bus.specs.Sets.{has}
 use Rattle.vme_captures.specs.declared.levels.Levels.{Levels}
 use Rattle.vme_captures.specs.declared.signals.Line.{Line}
@@ -27,8 +25,6 @@ use Rattle.vme_captures.specs.Changes.{is_line_low, seen}
 use Rattle.vme_captures.specs.Levels.{is_line_left_low}
 use Rattle.vme_captures.specs.Signals.{is_line}
 use Rattle.vme_captures.specs.Wires.{pin_on}
-use Rattle.vme_standings.specs.declared.fronts.Fronts.{Fronts}
-use Rattle.vme_standings.specs.declared.requests.Requests.{Requests}
 use Rattle.vme_standings.specs.declared.segments.Segments.{Segments}
 use Rattle.vme_standings.specs.declared.standings.Probed.{Probed}
 use Rattle.vme_standings.specs.declared.standings.Shown.{Shown}
@@ -38,15 +34,13 @@ use Rattle.vme_standings.specs.Covers.{AreLevels, AreProbed, Covers, KnowsShown,
 use Rattle.vme_standings.specs.Cycles.{CoversDrivers}
 use Rattle.vme_standings.specs.Driving.{MayPass, is_left_low}
 use Rattle.vme_standings.specs.FrontCovers.{CoversFronts, HasHiddenFronts, HasPassing, HasUnprobed, IsUnderWay, PassesOn, acknowledge_segment}
-use Rattle.vme_standings.specs.Hidden.{AreOnLowLines, ArePassing, FrontsHidden, HasMoved, HidesFronts, is_waited_for}
+use Rattle.vme_standings.specs.Hidden.{FrontsHidden, HasMoved, HidesFronts, is_waited_for}
 use Rattle.vme_standings.specs.InPhase.{AreAsked, HasProbes, grant_segment}
 use Rattle.vme_standings.specs.Interrupters.{is_line_low_of, is_on_low_line}
-use Rattle.vme_standings.specs.LowSegments.{is_segment}
 use Rattle.vme_standings.specs.Moving.{asked}
 use Rattle.vme_standings.specs.Phases.{no_slots}
-use Rattle.vme_standings.specs.Requests.{AreLow, AreOnLevel, is_interrupter, is_on_level}
+use Rattle.vme_standings.specs.Requests.{AreLow, is_on_level}
 use Rattle.vme_standings.specs.RequestSets.{CannotPass, may_be}
-use Rattle.vme_standings.specs.Segments.{has_segment}
 use Rattle.vme_standings.specs.Unseen.{is_unseen}
 use Rattle.vme_standings.proofs.FrontLaws.{any_meant, hidden_covers as hidden_fronts, hidden_has as fronts_hidden, unseen_covers as unseen_fronts}
 use Rattle.vme_standings.proofs.GrantEdges.{is_few}

@@ -1,8 +1,8 @@
 -- How the levels of the shared lines and of the segments move with an edge.
-use Rattle.std.proofs.Common.{◌≡◌, ◌≢◌, ◌∙◌, refl, sym, ap, subst, ℕ, zero, suc, Bool, true, false, List, [], ◌∷◌, ◌<◌, arith}
-use Rattle.std.specs.Prelude.{◌==◌, ◌&&◌, ◌||◌, if◌then◌else◌, Option, Some, None, find, is_some, option_map}
+use Rattle.std.proofs.Common.{◌≡◌, ◌≢◌, ◌∙◌, refl, sym, ap, ℕ, Bool, true, false, List, [], ◌∷◌, arith}
+use Rattle.std.specs.Prelude.{◌==◌, ◌&&◌, ◌||◌, if◌then◌else◌, Option, Some, None, option_map}
 use Rattle.std.specs.List.{list_any, All}
-use Rattle.std.specs.Option.{option_map_or, option_and_then}
+use Rattle.std.specs.Option.{option_map_or}
 use Rattle.std.proofs.lemmas.List.Elements.{All-head, All-tail}
 use Rattle.vme_model.specs.declared.boards.Row.{Row}
 use Rattle.vme_model.specs.declared.boards.InterrupterRow.{InterrupterRow}
@@ -15,22 +15,19 @@ use Rattle.vme_model.specs.declared.signals.Edge.{Edge}
 use Rattle.vme_model.specs.Signals.{is_edge_of, is_same_driver, is_same_wire}
 use Rattle.vme_model.specs.Plan.{Plan, board, board_of, drives, interrupts_on, requests_on}
 use Rattle.vme_model.specs.Accepted.{IsAccepted}
-use Rattle.vme_model.specs.History.{drive, interrupt_line, line, request_line}
+use Rattle.vme_model.specs.History.{drive}
 use Rattle.vme_model.proofs.Bools.{and_left, and_right, same_number}
 use Rattle.vme_model.proofs.Ranges.{IsRowInRange, in_range}
 use Rattle.vme_histories.proofs.Drivers.{same_driver}
 use Rattle.vme_histories.proofs.Others.{same_wire}
-use Rattle.vme_captures.specs.declared.levels.Levels.{Levels}
 use Rattle.vme_captures.specs.declared.signals.Change.{Change}
 use Rattle.vme_captures.specs.declared.signals.Line.{Line}
 use Rattle.vme_captures.specs.declared.signals.Line.TheVariants as on_line
 use Rattle.vme_captures.specs.declared.signals.Pin.{Pin}
 use Rattle.vme_captures.specs.declared.signals.Signal.TheVariants as signal
-use Rattle.vme_captures.specs.Changes.{differ, is_line_low, is_low, line_of, seen}
-use Rattle.vme_captures.specs.Levels.{is_line_left_low}
+use Rattle.vme_captures.specs.Changes.{differ, is_line_low, line_of, seen}
 use Rattle.vme_captures.specs.Signals.{is_same_line}
 use Rattle.vme_captures.proofs.Same.{line_other, line_same}
-use Rattle.vme_standings.specs.Behind.{SetsLine}
 use Rattle.vme_standings.proofs.SeenEdges.{line_is}
 use Rattle.vme_standings.proofs.SeenLines.{differs, line_stays, way}
 use Rattle.vme_standings.proofs.Tests.{both, never}

@@ -1,20 +1,20 @@
 -- What is known of the whole bus covers it behind a change of a segment of the acknowledge chain, and
 -- whoever made it is among those who may have.
-use Rattle.std.proofs.Common.{◌≡◌, ◌≢◌, ◌∙◌, refl, sym, ap, subst, ℕ, zero, suc, Bool, true, false, List, ◌∷◌, ◌<◌, arith}
-use Rattle.std.specs.Prelude.{◌==◌, ◌&&◌, if◌then◌else◌, nat_lt, not, Option, Some, None, is_some}
+use Rattle.std.proofs.Common.{◌≡◌, ◌∙◌, refl, sym, ap, subst, ℕ, zero, suc, Bool, true, false, List, ◌∷◌, arith}
+use Rattle.std.specs.Prelude.{◌==◌, ◌&&◌, if◌then◌else◌, not, Option, Some, None, is_some}
 use Rattle.std.specs.Option.{option_map_or}
 use Rattle.std.proofs.lemmas.Bool.Decides.{nat_tests}
 use Rattle.vme_model.specs.declared.sets.ChainId.TheVariants as chain
 use Rattle.vme_model.specs.declared.signals.Version.{Version}
 use Rattle.vme_model.specs.declared.signals.Cycle.TheVariants as cycle
-use Rattle.vme_model.specs.declared.signals.Driver.TheVariants.{Controller, Slot}
+use Rattle.vme_model.specs.declared.signals.Driver.TheVariants.{Slot}
 use Rattle.vme_model.specs.declared.signals.Wire.{Wire}
 use Rattle.vme_model.specs.declared.signals.Wire.TheVariants as wire
 use Rattle.vme_model.specs.declared.signals.Edge.{Edge}
 use Rattle.vme_model.specs.Signals.{is_same_driver}
 use Rattle.vme_model.specs.Plan.{Plan}
 use Rattle.vme_model.specs.Accepted.{IsAccepted}
-use Rattle.vme_model.specs.History.{interrupt_line, line, shown}
+use Rattle.vme_model.specs.History.{interrupt_line}
 use Rattle.vme_model.specs.Verdict.{IsLegal}
 use Rattle.vme_model.proofs.Bools.{same_number}
 use Rattle.vme_bus.specs.declared.sets.SlotSet.{SlotSet}
@@ -26,7 +26,6 @@ use Rattle.vme_captures.specs.declared.signals.Signal.TheVariants as signal
 use Rattle.vme_captures.specs.declared.signals.Value.{Value}
 use Rattle.vme_captures.specs.Changes.{seen}
 use Rattle.vme_captures.specs.Wires.{wire_of}
-use Rattle.vme_standings.specs.declared.moving.Moved.{Moved}
 use Rattle.vme_standings.specs.declared.moving.Moved.TheVariants as moved
 use Rattle.vme_standings.specs.declared.fronts.Fronts.{Fronts}
 use Rattle.vme_standings.specs.declared.requests.Requests.{Requests}
@@ -37,7 +36,7 @@ use Rattle.vme_standings.specs.declared.standings.Shown.TheVariants as known
 use Rattle.vme_standings.specs.declared.standings.Standings.{Standings}
 use Rattle.vme_standings.specs.Behind.{AddressersBehind, AnswerersBehind, FrontsBehind, FrontsPassed, IsBehind, PassedAt, PhasesBehind, RequestsBehind, RequestsPassed, shown_behind, strobed_behind}
 use Rattle.vme_standings.specs.Covers.{Among, Covers, says, segment_at}
-use Rattle.vme_standings.specs.Driving.{AreDrivers, BoardsMake, ControllerMakes, MayPass, MayPassAt, PassesShown, is_acknowledged, is_board_at, is_left_low, is_under_way}
+use Rattle.vme_standings.specs.Driving.{BoardsMake, ControllerMakes, MayPassAt, PassesShown, is_acknowledged, is_board_at, is_left_low, is_under_way}
 use Rattle.vme_standings.specs.FrontCovers.{CoversFronts, IsOfSegment, IsUnderWay, acknowledge_segment}
 use Rattle.vme_standings.specs.Fronts.{input_place, may_fall_at, place_of}
 use Rattle.vme_standings.specs.Interrupters.{is_on_low_line}
@@ -48,12 +47,12 @@ use Rattle.vme_standings.proofs.FrontSeen.{segment_able, segment_asked, segment_
 use Rattle.vme_standings.proofs.JoinedCycle.{is_asked}
 use Rattle.vme_standings.proofs.JoinedGrants.{self_board}
 use Rattle.vme_standings.proofs.JoinedHidden.{low_line_is}
-use Rattle.vme_standings.proofs.JoinedSeen.{IsStep, Step, by_board, by_controller, kept_drivers, kept_fronts, kept_phases, kept_requests, kept_shown, kept_strobed, levels_now}
+use Rattle.vme_standings.proofs.JoinedSeen.{Step, by_board, by_controller, kept_drivers, kept_fronts, kept_phases, kept_requests, kept_shown, kept_strobed, levels_now}
 use Rattle.vme_standings.proofs.RequestLaws.{interrupter_in}
 use Rattle.vme_standings.proofs.RequestPasses.{can_pass, pass_keeps}
 use Rattle.vme_standings.proofs.RequestRows.{interrupts_there}
 use Rattle.vme_standings.proofs.SeenLines.{way}
-use Rattle.vme_standings.proofs.Tests.{both, never}
+use Rattle.vme_standings.proofs.Tests.{both}
 
 -- the driver of a segment by its place
 abbrev pub driver_at : ℕ → Option ℕ

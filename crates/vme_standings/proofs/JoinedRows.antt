@@ -1,7 +1,7 @@
 -- What is known of the whole bus covers it behind each change that the probes see, and whoever made
 -- it is among those who may have.
-use Rattle.std.proofs.Common.{◌≡◌, ◌∙◌, refl, sym, ap, subst, ℕ, zero, suc, Bool, true, false, List, ◌∷◌, ◌<◌, arith}
-use Rattle.std.specs.Prelude.{◌==◌, ◌&&◌, not, Option, Some, None}
+use Rattle.std.proofs.Common.{◌≡◌, ◌∙◌, refl, sym, ℕ, zero, suc, Bool, true, false, List, ◌∷◌, ◌<◌, arith}
+use Rattle.std.specs.Prelude.{◌==◌, ◌&&◌, not, Option, Some}
 use Rattle.vme_model.specs.declared.sets.ChainId.{ChainId}
 use Rattle.vme_model.specs.declared.sets.ChainId.TheVariants as chain
 use Rattle.vme_model.specs.declared.signals.Driver.{Driver}
@@ -19,7 +19,7 @@ use Rattle.vme_captures.specs.declared.signals.Side.{Side}
 use Rattle.vme_captures.specs.declared.signals.Signal.{Signal}
 use Rattle.vme_captures.specs.declared.signals.Signal.TheVariants as signal
 use Rattle.vme_captures.specs.declared.signals.Value.{Value}
-use Rattle.vme_captures.specs.Changes.{agrees, are_values_of, differ, is_same_way, seen}
+use Rattle.vme_captures.specs.Changes.{agrees, are_values_of, is_same_way, seen}
 use Rattle.vme_captures.specs.Signals.{is_same_signal}
 use Rattle.vme_captures.specs.Wires.{wire_of}
 use Rattle.vme_captures.proofs.Same.{signal_same}
@@ -27,9 +27,7 @@ use Rattle.vme_standings.specs.declared.moving.Moved.TheVariants as moved
 use Rattle.vme_standings.specs.declared.standings.Drivers.{Drivers}
 use Rattle.vme_standings.specs.declared.standings.Probed.{Probed}
 use Rattle.vme_standings.specs.declared.standings.Standings.{Standings}
-use Rattle.vme_standings.specs.Behind.{IsBehind}
 use Rattle.vme_standings.specs.Covers.{Among, Covers, segment_at}
-use Rattle.vme_standings.specs.Driving.{AreDrivers}
 use Rattle.vme_standings.specs.InPhase.{grant_segment}
 use Rattle.vme_standings.specs.Moving.{moved_by}
 use Rattle.vme_standings.specs.Standings.{is_nobody}

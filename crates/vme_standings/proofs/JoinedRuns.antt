@@ -1,7 +1,7 @@
 -- What is known of a running bus, by what the head of a capture says, covers it; and it has levels
 -- with which a bus can run.
-use Rattle.std.proofs.Common.{◌≡◌, ◌≢◌, ◌∙◌, refl, sym, ap, subst, ℕ, zero, suc, Bool, true, false, List, [], ◌∷◌, ◌<◌, arith}
-use Rattle.std.specs.Prelude.{◌==◌, ◌&&◌, not, Option, Some, None, is_some, nat_lt, slice_index_or}
+use Rattle.std.proofs.Common.{◌≡◌, ◌∙◌, refl, sym, ap, subst, ℕ, zero, suc, Bool, true, false, List, [], ◌∷◌, ◌<◌, arith}
+use Rattle.std.specs.Prelude.{◌&&◌, not, Option, Some, None, is_some, nat_lt, slice_index_or}
 use Rattle.std.specs.Option.{option_map_or}
 use Rattle.std.proofs.lemmas.Bool.Decides.{nat_tests}
 use Rattle.vme_model.specs.declared.boards.Row.{Row}
@@ -16,7 +16,7 @@ use Rattle.vme_model.specs.declared.signals.Edge.{Edge}
 use Rattle.vme_model.specs.Plan.{Plan, board, grant_chain, interrupts_on, requests_on}
 use Rattle.vme_model.specs.Accepted.{IsAccepted}
 use Rattle.vme_model.specs.CycleSafety.{OneAnswers}
-use Rattle.vme_model.specs.History.{drive, interrupt_line, line, pulls_interrupt, pulls_request, segment}
+use Rattle.vme_model.specs.History.{drive, interrupt_line, line, pulls_interrupt, pulls_request}
 use Rattle.vme_model.specs.Readings.{is_served}
 use Rattle.vme_model.specs.Rules.{is_pri}
 use Rattle.vme_model.specs.Safe.{OnEachPrefix}
@@ -27,32 +27,25 @@ use Rattle.vme_model.proofs.Members.{some_row}
 use Rattle.vme_model.proofs.Ranges.{IsRowInRange, in_range}
 use Rattle.vme_model.proofs.Safety.{legal_is_orderly}
 use Rattle.vme_histories.proofs.Drivers.{own_of_none}
-use Rattle.vme_bus.specs.declared.sets.SlotSet.{SlotSet}
 use Rattle.vme_bus.specs.Sets.{has}
 use Rattle.vme_captures.specs.declared.levels.Levels.{Levels}
-use Rattle.vme_captures.specs.declared.signals.Line.{Line}
 use Rattle.vme_captures.specs.declared.signals.Line.TheVariants as on_line
 use Rattle.vme_captures.specs.declared.signals.Pin.{Pin}
 use Rattle.vme_captures.specs.Levels.{is_line_left_low}
 use Rattle.vme_captures.specs.Signals.{is_line}
-use Rattle.vme_standings.specs.declared.phases.GrantPhase.{GrantPhase}
-use Rattle.vme_standings.specs.declared.requests.Request.{Request}
-use Rattle.vme_standings.specs.declared.requests.Request.TheVariants.{High, Pending, Served}
-use Rattle.vme_standings.specs.declared.requests.Requests.{Requests}
 use Rattle.vme_standings.specs.declared.segments.Segments.{Segments}
 use Rattle.vme_standings.specs.declared.standings.Probed.{Probed}
 use Rattle.vme_standings.specs.declared.standings.Standings.{Standings}
 use Rattle.vme_standings.specs.Beginnings.{CanBegin}
-use Rattle.vme_standings.specs.Covers.{AreLevels, AreProbed, Covers, is_probed, is_segment_low, segment_at}
+use Rattle.vme_standings.specs.Covers.{AreLevels, AreProbed, Covers, is_probed, is_segment_low}
 use Rattle.vme_standings.specs.GrantChains.{is_of_level}
-use Rattle.vme_standings.specs.InPhase.{AreShown, CoversGrants, grant_segment, is_place_low}
+use Rattle.vme_standings.specs.InPhase.{AreShown, is_place_low}
 use Rattle.vme_standings.specs.LowSegments.{is_segment}
 use Rattle.vme_standings.specs.Moving.{asked}
-use Rattle.vme_standings.specs.Phases.{has_phase, is_in_table, no_slots}
-use Rattle.vme_standings.specs.Requests.{request_by, request_of, is_interrupter, is_on_level}
+use Rattle.vme_standings.specs.Phases.{no_slots}
+use Rattle.vme_standings.specs.Requests.{request_by, is_interrupter, is_on_level}
 use Rattle.vme_standings.specs.RequestSets.{may_be}
-use Rattle.vme_standings.specs.Running.{AnsweredTwice, AreUnknown, CannotRun, IsUndriven, NoPhase, NotCleared, Runs, Undriven}
-use Rattle.vme_standings.specs.Segments.{has_segment}
+use Rattle.vme_standings.specs.Running.{AnsweredTwice, CannotRun, IsUndriven, NoPhase, NotCleared, Runs, Undriven}
 use Rattle.vme_standings.proofs.FrontLaws.{any_meant, high_covers}
 use Rattle.vme_standings.proofs.GrantBegins.{can_begin, phase_of, running_covers}
 use Rattle.vme_standings.proofs.GrantOthers.{in_table}
@@ -62,8 +55,8 @@ use Rattle.vme_standings.proofs.JoinedCycle.{driven_by}
 use Rattle.vme_standings.proofs.JoinedHidden.{asked_is, low_line_is}
 use Rattle.vme_standings.proofs.JoinedSegments.{probed_works}
 use Rattle.vme_standings.proofs.RequestLaws.{interrupter_in}
-use Rattle.vme_standings.proofs.RequestSteps.{Interrupts, interrupts, on_level, pulled_by_other, pulls_it}
-use Rattle.vme_standings.proofs.Tests.{both, is_false, never}
+use Rattle.vme_standings.proofs.RequestSteps.{interrupts, on_level, pulled_by_other, pulls_it}
+use Rattle.vme_standings.proofs.Tests.{both, never}
 use Rattle.vme_standings.proofs.WhoDrives.{line_shows}
 
 whole : (P : List Edge → Type 0) (h : List Edge) → OnEachPrefix P h → P h

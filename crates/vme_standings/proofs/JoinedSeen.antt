@@ -1,21 +1,20 @@
 -- What is known of the whole bus covers it behind a change that the probes see, and whoever made it
 -- is among those who may have: a change of a request line, of BBSY*, or of BCLR*, a rise of AS*, of
 -- DTACK*, or of BERR*, or a change of DS*.
-use Rattle.std.proofs.Common.{◌≡◌, ◌≢◌, ◌∙◌, refl, sym, ap, subst, ℕ, zero, suc, Bool, true, false, List, ◌∷◌, ◌<◌, arith}
-use Rattle.std.specs.Prelude.{◌==◌, ◌&&◌, ◌||◌, if◌then◌else◌, nat_lt, not, Option, Some, None, is_some, option_map}
+use Rattle.std.proofs.Common.{◌≡◌, ◌∙◌, refl, sym, ap, subst, ℕ, Bool, true, false, List, ◌∷◌, ◌<◌, arith}
+use Rattle.std.specs.Prelude.{◌&&◌, ◌||◌, if◌then◌else◌, nat_lt, not, Option, Some, None, is_some, option_map}
 use Rattle.std.specs.Option.{option_and_then}
 use Rattle.vme_model.specs.declared.boards.Row.{Row}
 use Rattle.vme_model.specs.declared.boards.InterrupterRow.{InterrupterRow}
 use Rattle.vme_model.specs.declared.boards.RequesterRow.{RequesterRow}
 use Rattle.std.proofs.lemmas.Bool.Decides.{nat_tests}
-use Rattle.vme_model.specs.declared.sets.BusLevels.{BusLevels}
 use Rattle.vme_model.specs.declared.signals.Version.{Version}
 use Rattle.vme_model.specs.declared.signals.Driver.{Driver}
 use Rattle.vme_model.specs.declared.signals.Driver.TheVariants.{Controller, Slot}
 use Rattle.vme_model.specs.declared.signals.Wire.{Wire}
 use Rattle.vme_model.specs.declared.signals.Wire.TheVariants as wire
 use Rattle.vme_model.specs.declared.signals.Edge.{Edge}
-use Rattle.vme_model.specs.Signals.{is_edge_of, is_fall_of, is_same_driver, is_same_wire, has_wire}
+use Rattle.vme_model.specs.Signals.{is_fall_of, is_same_driver, is_same_wire}
 use Rattle.vme_model.specs.Plan.{Plan, board_of, drives}
 use Rattle.vme_model.specs.Accepted.{IsAccepted}
 use Rattle.vme_model.specs.History.{drive, has_strobed, line, pulls_line}
@@ -37,7 +36,7 @@ use Rattle.vme_captures.specs.declared.signals.Pin.{Pin}
 use Rattle.vme_captures.specs.declared.signals.Signal.{Signal}
 use Rattle.vme_captures.specs.declared.signals.Signal.TheVariants as signal
 use Rattle.vme_captures.specs.declared.signals.Value.{Value}
-use Rattle.vme_captures.specs.Changes.{differ, is_line_low, line_of, seen}
+use Rattle.vme_captures.specs.Changes.{line_of, seen}
 use Rattle.vme_captures.specs.Levels.{is_line_left_low}
 use Rattle.vme_standings.specs.declared.standings.Drivers.{Drivers}
 use Rattle.vme_standings.specs.declared.standings.Probed.{Probed}
@@ -58,7 +57,7 @@ use Rattle.vme_standings.specs.Moving.{asked}
 use Rattle.vme_standings.specs.Phases.{HasExactly, has_phase}
 use Rattle.vme_standings.specs.Requests.{AreOnLevel, CoversRequests, IsBy}
 use Rattle.vme_standings.specs.RequestSets.{Falls, Rises, may_be}
-use Rattle.vme_standings.proofs.FrontSeen.{as_edge, error_is, quiet_covers, strobe_rises}
+use Rattle.vme_standings.proofs.FrontSeen.{error_is, quiet_covers, strobe_rises}
 use Rattle.vme_standings.proofs.GrantOthers.{asked_by, asked_covers, cleared_able, cleared_by, cleared_covers, in_table, keeps, of_request, withdrawn_by, withdrawn_covers}
 use Rattle.vme_standings.proofs.GrantSeen.{released_by, released_covers, taken_by, taken_covers}
 use Rattle.vme_standings.proofs.JoinedCycle.{data_within, driven_by, goes, shown_kept, strobe_alone, strobed_kept}
@@ -67,11 +66,10 @@ use Rattle.vme_standings.proofs.JoinedSegments.{levels_behind}
 use Rattle.vme_standings.proofs.RequestLaws.{InSlot, fall_by as irq_fall_by, fall_keeps, in_slot, is_by, rise_by as irq_rise_by, rise_keeps}
 use Rattle.vme_standings.proofs.RequestPasses.{other_keeps}
 use Rattle.vme_standings.proofs.RequestRows.{irq_fell, irq_rose, mover, passed_as}
-use Rattle.vme_standings.proofs.RequestSteps.{same_driver}
 use Rattle.vme_standings.proofs.SeenEdges.{line_is}
 use Rattle.vme_standings.proofs.SeenLines.{differs, irq_falls, irq_rises, way}
-use Rattle.vme_standings.proofs.Tests.{both, is_false, never, or_left}
-use Rattle.vme_standings.proofs.WhoDrives.{fall_by, fell, line_shows, rise_by, rise_leaves, rose, silent_on, strobes}
+use Rattle.vme_standings.proofs.Tests.{both, is_false, never}
+use Rattle.vme_standings.proofs.WhoDrives.{fall_by, fell, line_shows, rise_leaves, rose, silent_on}
 
 -- what a change makes of what is known: whoever made it is among those who may have, and what is
 -- known behind it covers the bus

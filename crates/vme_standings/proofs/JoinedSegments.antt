@@ -1,6 +1,6 @@
 -- How the levels that the probes see move with an edge, those of the segments and all together.
-use Rattle.std.proofs.Common.{◌≡◌, ◌≢◌, ◌⊎◌, ◌∙◌, refl, sym, ap, subst, ℕ, zero, suc, Bool, true, false, List, ◌∷◌, ◌<◌, ◌≤◌, arith, inl, inr}
-use Rattle.std.specs.Prelude.{◌==◌, ◌&&◌, if◌then◌else◌, Option, Some, None, find, is_some, nat_lt, option_map, reverse, unwrap_or}
+use Rattle.std.proofs.Common.{◌≡◌, ◌∙◌, refl, sym, ap, subst, ℕ, zero, suc, Bool, true, false, List, ◌∷◌, ◌<◌, ◌≤◌, arith}
+use Rattle.std.specs.Prelude.{◌==◌, ◌&&◌, if◌then◌else◌, Option, Some, None, is_some, option_map, unwrap_or}
 use Rattle.std.specs.Option.{option_map_or, option_and_then}
 use Rattle.std.proofs.lemmas.Bool.Decides.{nat_tests}
 use Rattle.vme_model.specs.declared.boards.Row.{Row}
@@ -13,9 +13,9 @@ use Rattle.vme_model.specs.declared.signals.Wire.{Wire}
 use Rattle.vme_model.specs.declared.signals.Wire.TheVariants as wire
 use Rattle.vme_model.specs.declared.signals.Edge.{Edge}
 use Rattle.vme_model.specs.Signals.{is_edge_of, is_same_driver, is_same_wire}
-use Rattle.vme_model.specs.Plan.{Plan, active, board, board_of, grant_chain, head_wire, is_active, out_wire, upstream, works}
+use Rattle.vme_model.specs.Plan.{Plan, board, board_of, grant_chain, head_wire, is_active, out_wire, upstream, works}
 use Rattle.vme_model.specs.Accepted.{IsAccepted}
-use Rattle.vme_model.specs.History.{drive, segment}
+use Rattle.vme_model.specs.History.{segment}
 use Rattle.vme_model.proofs.Below.{IsBelow, is_below}
 use Rattle.vme_model.proofs.Bools.{and_left, and_right, same_number}
 use Rattle.vme_histories.proofs.AllowedBoards.{stands}
@@ -30,10 +30,10 @@ use Rattle.vme_captures.specs.declared.signals.Side.{Side}
 use Rattle.vme_captures.specs.declared.signals.Side.TheVariants.{In, Out}
 use Rattle.vme_captures.specs.declared.signals.Signal.{Signal}
 use Rattle.vme_captures.specs.declared.signals.Signal.TheVariants as signal
-use Rattle.vme_captures.specs.Changes.{differ, grant_output, is_line_low, is_low, line_of, seen, segment_of, signal_of, signal_on}
+use Rattle.vme_captures.specs.Changes.{differ, is_line_low, line_of, seen, segment_of, signal_on}
 use Rattle.vme_captures.specs.Levels.{is_line_left_low}
 use Rattle.vme_captures.specs.Signals.{is_line, is_same_chain, is_same_line}
-use Rattle.vme_captures.specs.Wires.{input_wire, output_wire, pin_on, wire_of, wire_on}
+use Rattle.vme_captures.specs.Wires.{input_wire, pin_on, wire_of, wire_on}
 use Rattle.vme_captures.proofs.Same.{line_other, line_same}
 use Rattle.vme_standings.specs.declared.segments.Segments.{Segments}
 use Rattle.vme_standings.specs.Behind.{LinesBehind, LowBehind, SetsWire}

@@ -1,6 +1,6 @@
 -- What is shown on a bus that keeps the rules: it is in range, and the board that shows it may.
-use Rattle.std.proofs.Common.{◌≡◌, ◌∙◌, refl, sym, ap, subst, ℕ, Bool, true, false, List, [], ◌∷◌}
-use Rattle.std.specs.Prelude.{◌&&◌, not, Option, Some, None}
+use Rattle.std.proofs.Common.{◌≡◌, refl, ap, subst, ℕ, Bool, true, false, List, [], ◌∷◌}
+use Rattle.std.specs.Prelude.{Option, Some, None}
 use Rattle.std.specs.Option.{option_map_or}
 use Rattle.vme_model.specs.declared.boards.Row.{Row}
 use Rattle.vme_model.specs.declared.signals.Version.{Version}

@@ -1,7 +1,7 @@
 -- What is known of the whole bus covers it behind a fall of AS*, and whoever made it is among those
 -- who may have.
-use Rattle.std.proofs.Common.{◌≡◌, ◌≢◌, ◌∙◌, refl, sym, ap, subst, ℕ, zero, suc, Bool, true, false, List, ◌∷◌, ◌<◌, arith}
-use Rattle.std.specs.Prelude.{◌==◌, ◌&&◌, ◌||◌, if◌then◌else◌, not, Option, Some, None, is_some, option_map}
+use Rattle.std.proofs.Common.{◌≡◌, ◌∙◌, refl, sym, ap, subst, ℕ, zero, suc, Bool, true, false, List, ◌∷◌, ◌<◌, arith}
+use Rattle.std.specs.Prelude.{◌==◌, ◌&&◌, ◌||◌, if◌then◌else◌, Option, Some, None, is_some, option_map}
 use Rattle.std.specs.Int.{bit_at}
 use Rattle.std.specs.Option.{option_map_or}
 use Rattle.std.proofs.lemmas.Bool.Decides.{nat_tests}
@@ -31,15 +31,13 @@ use Rattle.vme_captures.specs.declared.signals.Value.TheVariants as value
 use Rattle.vme_captures.specs.Changes.{are_values_of, is_same_cycle, seen, value_at}
 use Rattle.vme_standings.specs.declared.phases.GrantPhase.TheVariants.{Held}
 use Rattle.vme_standings.specs.declared.phases.GrantPhases.{GrantPhases}
-use Rattle.vme_standings.specs.declared.standings.Drivers.{Drivers}
 use Rattle.vme_standings.specs.declared.standings.Probed.{Probed}
 use Rattle.vme_standings.specs.declared.standings.Shown.{Shown}
-use Rattle.vme_standings.specs.declared.standings.Shown.TheVariants as known
 use Rattle.vme_standings.specs.declared.standings.Standings.{Standings}
-use Rattle.vme_standings.specs.Behind.{IsBehind, shown_of}
-use Rattle.vme_standings.specs.Covers.{Among, Covers, KnowsShown, KnowsStrobed, is_probed, is_segment_low, says}
+use Rattle.vme_standings.specs.Behind.{shown_of}
+use Rattle.vme_standings.specs.Covers.{Covers, KnowsShown, KnowsStrobed, is_probed, is_segment_low, says}
 use Rattle.vme_standings.specs.Cycles.{may_show_at}
-use Rattle.vme_standings.specs.Driving.{AreDrivers, AreStarters, is_no_slot, may_show_value}
+use Rattle.vme_standings.specs.Driving.{AreStarters, is_no_slot, may_show_value}
 use Rattle.vme_standings.specs.InPhase.{CoversGrants}
 use Rattle.vme_standings.specs.Phases.{HasExactly, has_phase, is_held_by}
 use Rattle.vme_standings.specs.Requests.{IsBy}
@@ -47,13 +45,12 @@ use Rattle.vme_standings.proofs.FrontSeen.{strobe_clear, strobe_falls}
 use Rattle.vme_standings.proofs.FrontSteps.{board_high, head_high}
 use Rattle.vme_standings.proofs.GrantOthers.{strobed_by, strobed_covers}
 use Rattle.vme_standings.proofs.JoinedAnswers.{seen_value}
-use Rattle.vme_standings.proofs.JoinedSeen.{IsStep, Step, by_board, kept_drivers, kept_requests, levels_now}
+use Rattle.vme_standings.proofs.JoinedSeen.{Step, by_board, kept_drivers, kept_requests, levels_now}
 use Rattle.vme_standings.proofs.JoinedSegments.{probed_works}
 use Rattle.vme_standings.proofs.JoinedShows.{Shows, shows_at}
 use Rattle.vme_standings.proofs.RequestRows.{passed_as}
-use Rattle.vme_standings.proofs.RequestSteps.{same_driver}
 use Rattle.vme_standings.proofs.SeenLines.{differs, way}
-use Rattle.vme_standings.proofs.Tests.{both, never}
+use Rattle.vme_standings.proofs.Tests.{never}
 use Rattle.vme_standings.proofs.WhoDrives.{fall_by, fall_leaves, fell, silent_on}
 
 -- a set without a slot
