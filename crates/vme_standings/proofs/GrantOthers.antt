@@ -82,7 +82,7 @@ exact_at set test exact (Held k t) is = exact.held k t (below k 22 (and_left (na
 exact_at set test exact (Expired c t) is = exact.expired c t (below c 4 (and_left (nat_lt c 4) (nat_lt t 22) is)) (below_22 t (and_right (nat_lt c 4) (nat_lt t 22) is))
 
 -- a board that holds the bus does so in the phase
-held_from : (p : Plan) (h : List Edge) (t : ℕ) → drive h (Slot t) wire.Bbsy ≡ true → (q : GrantPhase) → InPhase p h q → (first : ℕ) × (q ≡ Held t first)
+pub held_from : (p : Plan) (h : List Edge) (t : ℕ) → drive h (Slot t) wire.Bbsy ≡ true → (q : GrantPhase) → InPhase p h q → (first : ℕ) × (q ≡ Held t first)
 held_from p h t holds (Idle c) i = absurd (never (drive h (Slot t) wire.Bbsy) holds (i.held t))
 held_from p h t holds (Granting c last) i = absurd (never (drive h (Slot t) wire.Bbsy) holds (i.held t))
 held_from p h t holds (Held k first) i = (first, ap (λ x. Held x first) (same_number k t (sym (i.held t) ∙ holds)))

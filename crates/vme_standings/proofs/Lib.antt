@@ -88,5 +88,7 @@ pub mod JoinedRows
 pub mod JoinedLists
 -- what is known of a running bus covers it: `joined_laws`
 pub mod JoinedRuns
+-- what is known of a bus that it covers: `joined_laws`
+pub mod JoinedTells
 -- what is known at the beginning covers the bus: `joined_laws`
 pub mod JoinedBegins

@@ -2,7 +2,7 @@
 //!
 //! The function does nothing. It is a theorem, which its contract states. `old` is what is known
 //! before an edge, and `new` what is known behind it.
-ghost use Rattle.std.specs.Prelude.{◌≡◌, ◌∷◌, ◌++◌, true, false, Some, None, List, []};
+ghost use Rattle.std.specs.Prelude.{◌≡◌, ◌∷◌, ◌++◌, ◌&&◌, ◌||◌, ℕ, true, false, Some, None, List, []};
 ghost use Rattle.vme_captures.specs.Changes.{agrees, seen};
 ghost use Rattle.vme_captures.specs.Levels.{is_line_left_low};
 ghost use Rattle.vme_captures.specs.Possible.{AgreeEach, Sighting, sightings};
@@ -11,16 +11,25 @@ ghost use Rattle.vme_captures.specs.declared.levels.Levels.{Levels};
 ghost use Rattle.vme_captures.specs.declared.signals.Line.TheVariants as line;
 ghost use Rattle.vme_captures.specs.declared.signals.Pin.{Pin};
 ghost use Rattle.vme_model.specs.Accepted.{IsAccepted};
+ghost use Rattle.vme_model.specs.History.{drive};
 ghost use Rattle.vme_model.specs.Plan.{Plan};
 ghost use Rattle.vme_model.specs.Verdict.{IsLegal};
+ghost use Rattle.vme_model.specs.declared.signals.Driver.TheVariants.{Slot};
 ghost use Rattle.vme_model.specs.declared.signals.Edge.{Edge};
+ghost use Rattle.vme_model.specs.declared.signals.Wire.TheVariants.{Bbsy, Irq};
 ghost use Rattle.vme_standings.specs.Behind.{IsBehind};
 ghost use Rattle.vme_standings.specs.Covers.{Among, AreLevels, AreProbed, Covers};
 ghost use Rattle.vme_standings.specs.Driving.{AreDrivers};
 ghost use Rattle.vme_standings.specs.Following.{Follows};
 ghost use Rattle.vme_standings.specs.Hidden.{HasMoved};
+ghost use Rattle.vme_standings.specs.Phases.{has_phase, is_held};
+ghost use Rattle.vme_standings.specs.RequestSets.{may_be};
+ghost use Rattle.vme_standings.specs.Requests.{is_on_level};
 ghost use Rattle.vme_standings.specs.Running.{CannotRun, IsPowerUp, Runs};
 ghost use Rattle.vme_standings.specs.Standings.{is_nobody};
+ghost use Rattle.vme_standings.specs.declared.phases.GrantPhase.{GrantPhase as PhaseValue};
+ghost use Rattle.vme_standings.specs.declared.phases.GrantPhase.TheVariants.{Held};
+ghost use Rattle.vme_standings.specs.declared.requests.Request.TheVariants.{Pending, Served};
 ghost use Rattle.vme_standings.specs.declared.segments.Segments.{Segments};
 ghost use Rattle.vme_standings.specs.declared.standings.Drivers.{Drivers};
 ghost use Rattle.vme_standings.specs.declared.standings.Probed.{Probed};
@@ -40,6 +49,9 @@ ghost use Rattle.vme_standings.specs.declared.standings.Standings.{Standings};
 /// So, if what is known first covers the edges before a capture, what is known behind its changes
 /// covers, with the hidden moves, every list of edges that shows them. For each such list the
 /// driver of the newest change is among those who may have made it: it is never that nobody may.
+///
+/// What covers a bus tells of whoever holds it, or that nobody may hold it, and of whoever pulls an
+/// interrupt line.
 pub fn the_bus_stays_covered()
     ensures power_up { (p : Plan) (pins : List Pin) (new : Standings) → IsAccepted p
         → IsPowerUp p new → Covers p pins [] new }
@@ -87,4 +99,14 @@ pub fn the_bus_stays_covered()
         → sightings p pins g h ≡ s ∷ others → AgreeEach (c ∷ earlier) (s ∷ others)
         → Covers p pins g first → Follows p probed first earlier behind
         → HasMoved p probed behind last → AreDrivers p probed last c d → Among d s.driver }
+    ensures holder { (p : Plan) (pins : List Pin) (h : List Edge) (st : Standings) (s : ℕ)
+        → Covers p pins h st → drive h (Slot s) Bbsy ≡ true
+        → (first : ℕ) × (has_phase st.phases (Held s first) ≡ true) }
+    ensures free { (p : Plan) (pins : List Pin) (h : List Edge) (st : Standings)
+        → Covers p pins h st → ((s : ℕ) → drive h (Slot s) Bbsy ≡ false)
+        → (q : PhaseValue) × (has_phase st.phases q ≡ true) × (is_held q ≡ false) }
+    ensures puller { (p : Plan) (pins : List Pin) (h : List Edge) (st : Standings) (n s : ℕ)
+        → Covers p pins h st → is_on_level p n s ≡ true → drive h (Slot s) Irq ≡ true
+        → (is_on_level p n s
+        && (may_be st.requests s Pending || may_be st.requests s Served)) ≡ true }
 {}

@@ -3,6 +3,7 @@ use Rattle.vme_standings.proofs.JoinedHidden.{moved_covers, unseen_covered}
 use Rattle.vme_standings.proofs.JoinedLists.{followed, newest_by, newest_somebody}
 use Rattle.vme_standings.proofs.JoinedRows.{seen_step, somebody}
 use Rattle.vme_standings.proofs.JoinedRuns.{runs, runs_covered}
+use Rattle.vme_standings.proofs.JoinedTells.{holder_told, nobody_told, puller_told}
 use Rattle.vme_standings.proofs.joined_laws.the_bus_stays_covered.Goals as goal
 
 pub returns : goal.returns
@@ -22,4 +23,7 @@ returns c = record {
       newest_somebody p ok probed pins probes g first covers h legal change earlier agree behind last follows moved d drivers;
   named = λ p pins probed g h change earlier s others first behind last d ok probes legal is agree covers follows moved drivers.
       newest_by p ok probed pins probes g first covers h legal change earlier s others is agree behind last follows moved d drivers;
+  holder = λ p pins h st s covers on. holder_told p pins h st covers s on;
+  free = λ p pins h st covers nobody. nobody_told p pins h st covers nobody;
+  puller = λ p pins h st n s covers on low. puller_told p pins h st covers n s on low;
 }
