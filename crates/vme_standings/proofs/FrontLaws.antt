@@ -94,7 +94,7 @@ pub beginning_covers : (p : Plan) (new : Fronts) → IsAccepted p → CoversFron
 beginning_covers p new ok low = absurd (never false (line_from p (in_range p ok) [] AddressStrobe low).1 refl)
 
 -- a board with an interrupter has one of any
-any_meant : (p : Plan) (s : ℕ) → is_interrupter p s ≡ true → is_meant_at All p s ≡ true
+pub any_meant : (p : Plan) (s : ℕ) → is_interrupter p s ≡ true → is_meant_at All p s ≡ true
 any_meant p s on = by_board (board p s) on
   where
     by_interrupter : (o : Option InterrupterRow) → is_some o ≡ true → option_map_or (is_such All) o false ≡ true

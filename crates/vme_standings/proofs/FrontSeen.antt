@@ -170,7 +170,7 @@ module _ (version : Version) (p : Plan) (ok : IsAccepted p) (pins : List Pin) (h
 
   -- BERR* falls
   module _ (is : v.signal ≡ signal.Line on_line.Berr) where
-    error_is : (e.driver ≡ Controller) × (e.wire ≡ Berr)
+    pub error_is : (e.driver ≡ Controller) × (e.wire ≡ Berr)
     error_is = berr_is e.driver e.wire (board_of p e.driver) (all_passed version p h e.driver e.wire e.fall e.value legal.0).wire (line_is p pins h e v s on_line.Berr is)
 
     pub error_by : e.driver ≡ Controller

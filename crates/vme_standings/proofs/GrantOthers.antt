@@ -82,7 +82,7 @@ exact_at set test exact (Held k t) is = exact.held k t (below k 22 (and_left (na
 exact_at set test exact (Expired c t) is = exact.expired c t (below c 4 (and_left (nat_lt c 4) (nat_lt t 22) is)) (below_22 t (and_right (nat_lt c 4) (nat_lt t 22) is))
 
 -- a board that holds the bus does so in the phase
-held_from : (p : Plan) (h : List Edge) (t : ℕ) → drive h (Slot t) wire.Bbsy ≡ true → (q : GrantPhase) → InPhase p h q → (first : ℕ) × (q ≡ Held t first)
+pub held_from : (p : Plan) (h : List Edge) (t : ℕ) → drive h (Slot t) wire.Bbsy ≡ true → (q : GrantPhase) → InPhase p h q → (first : ℕ) × (q ≡ Held t first)
 held_from p h t holds (Idle c) i = absurd (never (drive h (Slot t) wire.Bbsy) holds (i.held t))
 held_from p h t holds (Granting c last) i = absurd (never (drive h (Slot t) wire.Bbsy) holds (i.held t))
 held_from p h t holds (Held k first) i = (first, ap (λ x. Held x first) (same_number k t (sym (i.held t) ∙ holds)))
@@ -97,13 +97,13 @@ keeps p h e set a b c covers = record {
 }
 
 -- a board of the level moves its BR line
-record OfRequest (p : Plan) (e : Edge) (n : ℕ) : Type 0 where
-  slot : ℕ
-  driver : e.driver ≡ Slot slot
-  wire : e.wire ≡ wire.Br
-  member : is_of_level p n slot ≡ true
+pub record OfRequest (p : Plan) (e : Edge) (n : ℕ) : Type 0 where
+  pub slot : ℕ
+  pub driver : e.driver ≡ Slot slot
+  pub wire : e.wire ≡ wire.Br
+  pub member : is_of_level p n slot ≡ true
 
-of_request : (p : Plan) (e : Edge) (n : ℕ) → line_of e.wire (board_of p e.driver) ≡ Some (on_line.Br n) → OfRequest p e n
+pub of_request : (p : Plan) (e : Edge) (n : ℕ) → line_of e.wire (board_of p e.driver) ≡ Some (on_line.Br n) → OfRequest p e n
 of_request p e n is = by_wire e.driver e.wire refl refl is
   where
     by_requester : (t : ℕ) (r : Row) → board p t ≡ Some r → e.driver ≡ Slot t → e.wire ≡ wire.Br → (o : Option RequesterRow) → r.requester ≡ o
@@ -135,7 +135,7 @@ of_request p e n is = by_wire e.driver e.wire refl refl is
     by_wire d w driver is x = absurd (cc)
 
 -- BCLR* is moved by the controller
-bclr_is : (d : Driver) (w : Wire) (r : Option Row) → has_wire d w ≡ true → line_of w r ≡ Some on_line.Bclr → (d ≡ Controller) × (w ≡ wire.Bclr)
+pub bclr_is : (d : Driver) (w : Wire) (r : Option Row) → has_wire d w ≡ true → line_of w r ≡ Some on_line.Bclr → (d ≡ Controller) × (w ≡ wire.Bclr)
 bclr_is Controller wire.Bclr r has is = (refl, refl)
 bclr_is d wire.Br r has is = absurd (no_request (option_and_then (λ (b : Row). b.requester) r) is)
   where
@@ -280,7 +280,7 @@ module _ (version : Version) (p : Plan) (ok : IsAccepted p) (pins : List Pin) (h
 
   -- BCLR* falls or rises
   module _ (is : v.signal ≡ signal.Line on_line.Bclr) where
-    abbrev clear_is : (e.driver ≡ Controller) × (e.wire ≡ wire.Bclr)
+    abbrev pub clear_is : (e.driver ≡ Controller) × (e.wire ≡ wire.Bclr)
     clear_is = bclr_is e.driver e.wire (board_of p e.driver) (all_passed version p h e.driver e.wire e.fall e.value legal.0).wire (line_is p pins h e v s on_line.Bclr is)
 
     module _ (requests : BusLevels) (asked : AreAsked p h requests) where
@@ -364,8 +364,11 @@ module _ (version : Version) (p : Plan) (ok : IsAccepted p) (pins : List Pin) (h
       due_fall false f =
           not_true due_now (all_passed version p h Controller wire.Bclr false e.value (legal_as (at_head wire.Bclr false e.value) (as_edge e Controller wire.Bclr false clear_is.0 clear_is.1 (way p ok pins h e v s false f))).0).rule
 
+      pub cleared_able : are_alike (is_clear_due p requests covers.phase) v.fall ≡ true
+      cleared_able = alike due_now (due covers.phase covers.is_in) v.fall (due_fall v.fall refl)
+
       pub cleared_covers : (new : GrantPhases) → HasExactly new (λ q. has_phase old q && are_alike (is_clear_due p requests q) v.fall) → CoversGrants p (e ∷ h) new
       cleared_covers new exact =
           keeps_as wire.Bclr clear_is.1 (λ k y. absurd (cc)) (λ y. absurd (cc)) (λ y. absurd (cc)) new
           (exact_at new (λ q. has_phase old q && are_alike (is_clear_due p requests q) v.fall) exact covers.phase in_rows
-          ∙ both (has_phase old covers.phase) _ covers.member (alike due_now (due covers.phase covers.is_in) v.fall (due_fall v.fall refl)))
+          ∙ both (has_phase old covers.phase) _ covers.member cleared_able)

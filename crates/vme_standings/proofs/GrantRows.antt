@@ -8,12 +8,14 @@ use Rattle.vme_model.specs.declared.signals.Driver.TheVariants.{Controller, Slot
 use Rattle.vme_model.specs.declared.signals.Wire.TheVariants.{Bg, BgOut}
 use Rattle.vme_model.specs.declared.signals.Edge.{Edge}
 use Rattle.vme_model.specs.Signals.{is_two}
-use Rattle.vme_model.specs.Plan.{Plan}
+use Rattle.std.specs.List.{list_any}
+use Rattle.vme_model.specs.Plan.{Plan, active, grant_chain}
 use Rattle.vme_model.specs.Accepted.{IsAccepted}
 use Rattle.vme_model.specs.History.{last_level as last_granted}
 use Rattle.vme_model.specs.Verdict.{IsLegal}
 use Rattle.vme_model.proofs.AllowedEdges.{all_passed}
-use Rattle.vme_model.proofs.Members.{one_chain}
+use Rattle.vme_model.proofs.Members.{is_member, one_chain}
+use Rattle.vme_model.proofs.Ranges.{in_range}
 use Rattle.vme_histories.proofs.AllowedBoards.{at, at_head}
 use Rattle.vme_captures.specs.declared.signals.Change.{Change}
 use Rattle.vme_captures.specs.declared.signals.Pin.{Pin}
@@ -23,6 +25,7 @@ use Rattle.vme_captures.specs.Wires.{wire_of}
 use Rattle.vme_standings.specs.declared.phases.GrantPhase.{GrantPhase}
 use Rattle.vme_standings.specs.declared.phases.GrantPhase.TheVariants.{Idle, Granting, Held, Expired}
 use Rattle.vme_standings.specs.declared.phases.GrantPhases.{GrantPhases}
+use Rattle.vme_standings.specs.Driving.{can_rise}
 use Rattle.vme_standings.specs.GrantChains.{end_place, is_follower, is_of_level, place_before}
 use Rattle.vme_standings.specs.Grants.{behind_grant, behind_pass, behind_rise, is_granted, is_let_go, is_passed, is_picked, is_run_out}
 use Rattle.vme_standings.specs.Phases.{HasExactly, has_phase}
@@ -32,6 +35,7 @@ use Rattle.vme_standings.proofs.SeenLines.{way}
 use Rattle.vme_standings.proofs.SeenEdges.{segment_is}
 use Rattle.vme_standings.proofs.FrontSeen.{as_edge}
 use Rattle.vme_standings.proofs.UnseenPhases.{some_level}
+use Rattle.vme_standings.proofs.GrantEdges.{any_of}
 use Rattle.vme_standings.proofs.GrantPlaces.{above_zero, follower_on, near}
 use Rattle.vme_standings.proofs.GrantSegments.{OfGrant, of_grant}
 use Rattle.vme_standings.proofs.PhaseSteps.{equal, last_few}
@@ -42,6 +46,37 @@ three a b c x y z = grind arith
 
 less : (a b : ℕ) → a < b → nat_lt a b ≡ true
 less a b l = grind (arith, nat_tests)
+
+-- the segment may rise: a board took the grant, or nobody did
+pub turn_able : (version : Version) (p : Plan) → IsAccepted p → (h : List Edge) (e : Edge) (m x : ℕ) → m < 4 → (old : GrantPhases) (q : GrantPhase) → has_phase old q ≡ true → Turns version p h e m x q → can_rise p version m x old ≡ true
+turn_able version p ok h e m x few old q on (KeptBy k f member l to follows same i) =
+    second (is_run_out p version m x old) (list_any (is_let_go p m x old) (active p (grant_chain m)))
+    (any_of (is_let_go p m x old) (active p (grant_chain m)) k (is_member p (in_range p ok) m k few member)
+    (three (nat_lt x k) (is_of_level p m k) (has_phase old (Held k x)) (less x k l) member (subst (λ r. has_phase old r ≡ true) same on)))
+  where
+    second : (a b : Bool) → b ≡ true → (a || b) ≡ true
+    second a b is = grind arith
+turn_able version p ok h e m x few old q on (RunOn f two from follows same i) =
+    first (is_two version) (x == 0) (has_phase old (Granting m (end_place p m))) (has_phase old (Expired m x)) (list_any (is_let_go p m x old) (active p (grant_chain m))) two (above x from) (subst (λ r. has_phase old r ≡ true) same on)
+  where
+    above : (x : ℕ) → 0 < x → (x == 0) ≡ false
+    above x from = grind (arith, nat_tests)
+
+    first : (a t b c d : Bool) → a ≡ true → t ≡ false → c ≡ true → ((a && (if t then b else c)) || d) ≡ true
+    first a t b c d f g i = grind arith
+turn_able version p ok h e m x few old q on (AllRun two from end same i) =
+    first (is_two version) (x == 0) (has_phase old (Granting m (end_place p m))) (has_phase old (Expired m x)) (list_any (is_let_go p m x old) (active p (grant_chain m))) two (above x from) (subst (λ r. has_phase old r ≡ true) same on)
+  where
+    above : (x : ℕ) → 0 < x → (x == 0) ≡ false
+    above x from = grind (arith, nat_tests)
+
+    first : (a t b c d : Bool) → a ≡ true → t ≡ false → c ≡ true → ((a && (if t then b else c)) || d) ≡ true
+    first a t b c d f g i = grind arith
+turn_able version p ok h e m x few old q on (GoneBack f two none follows same i) =
+    first (is_two version) (x == 0) (has_phase old (Granting m (end_place p m))) (has_phase old (Expired m x)) (list_any (is_let_go p m x old) (active p (grant_chain m))) two (equal x 0 none) (subst (λ r. has_phase old r ≡ true) same on)
+  where
+    first : (a t b c d : Bool) → a ≡ true → t ≡ true → b ≡ true → ((a && (if t then b else c)) || d) ≡ true
+    first a t b c d f g i = grind arith
 
 -- behind the rise of a segment
 module _ (version : Version) (p : Plan) (ok : IsAccepted p) (h : List Edge) (e : Edge) (m x : ℕ) (few : m < 4) (old new : GrantPhases) (exact : HasExactly new (behind_rise p version m x old)) where
@@ -194,3 +229,21 @@ module _ (version : Version) (p : Plan) (ok : IsAccepted p) (pins : List Pin) (h
             covers_as (at place BgOut false e.value) new edge
             (turn_covers version p ok h (at place BgOut false e.value) c place few old new exact covers.phase covers.member
             (subst (λ n. Turns version p h (at place BgOut false e.value) n place covers.phase) same (rise_turns version p ok h place e.value l covers.phase covers.is_in)))
+
+    pub rise_able : v.fall ≡ false → can_rise p version c place old ≡ true
+    rise_able fall = by_place place refl
+      where
+        by_place : (t : ℕ) → place ≡ t → can_rise p version c place old ≡ true
+        by_place zero none =
+            let edge = head_is false none (way p ok pins h e v s false fall) in
+            subst (λ x. can_rise p version c x old ≡ true) (sym none)
+            (turn_able version p ok h (at_head (Bg c) false e.value) c 0 few old covers.phase covers.member
+            (back_turns version p ok h c e.value (legal_as (at_head (Bg c) false e.value) edge) covers.phase covers.is_in))
+        by_place (suc t) own =
+            let from : 0 < place = omega (arith, own) in
+            let edge = board_is false from (way p ok pins h e v s false fall) in
+            let l = legal_as (at place BgOut false e.value) edge in
+            let level = rise_level version p ok h place e.value l in
+            let same : level.level ≡ c = one_chain p level.level c place level.member (member from) in
+            turn_able version p ok h (at place BgOut false e.value) c place few old covers.phase covers.member
+            (subst (λ n. Turns version p h (at place BgOut false e.value) n place covers.phase) same (rise_turns version p ok h place e.value l covers.phase covers.is_in))

@@ -60,3 +60,35 @@ pub mod GrantHidden
 pub mod GrantOthers
 -- every bus that keeps the rules is in a phase of the grants and BBSY*: `grant_laws`
 pub mod GrantBegins
+-- how the levels of the shared lines and of the segments move with an edge: `joined_laws`
+pub mod JoinedLevels
+-- what is known of a cycle, behind an edge: `joined_laws`
+pub mod JoinedCycle
+-- how the levels that the probes see move with an edge: `joined_laws`
+pub mod JoinedSegments
+-- the hidden moves, and an edge that no probe sees: `joined_laws`
+pub mod JoinedHidden
+-- what is known of the whole bus, behind a change that is seen: `joined_laws`
+pub mod JoinedSeen
+-- what is known of the whole bus, behind a change of a grant chain: `joined_laws`
+pub mod JoinedGrants
+-- what is known of the whole bus, behind a change of the acknowledge chain: `joined_laws`
+pub mod JoinedPasses
+-- what is known of the whole bus, behind a fall of DTACK*: `joined_laws`
+pub mod JoinedAnswers
+-- what is shown on a bus that keeps the rules: `joined_laws`
+pub mod JoinedShows
+-- what is known of the whole bus, behind a fall of AS*: `joined_laws`
+pub mod JoinedStarts
+-- what is known of the whole bus, behind a fall of BERR*: `joined_laws`
+pub mod JoinedErrors
+-- what is known of the whole bus, behind each change that is seen: `joined_laws`
+pub mod JoinedRows
+-- edge by edge, every list that shows a capture is covered: `joined_laws`
+pub mod JoinedLists
+-- what is known of a running bus covers it: `joined_laws`
+pub mod JoinedRuns
+-- what is known of a bus that it covers: `joined_laws`
+pub mod JoinedTells
+-- what is known at the beginning covers the bus: `joined_laws`
+pub mod JoinedBegins

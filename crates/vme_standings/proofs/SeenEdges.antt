@@ -61,7 +61,7 @@ same_segment a b e =
     ∙ ap (λ x. record { chain = b.chain; place = x }) (same_place a.place b.place (and_right (is_same_chain a.chain b.chain) (is_same_place a.place b.place) e))
 
 -- the wire of a pin that was found on it
-wire_is : (p : Plan) (pins : List Pin) (g : Segment) (q : Pin) → pin_on p pins g ≡ Some q → wire_of p q ≡ g
+pub wire_is : (p : Plan) (pins : List Pin) (g : Segment) (q : Pin) → pin_on p pins g ≡ Some q → wire_of p q ≡ g
 wire_is p pins g q is = same_segment (wire_of p q) g (found (is_on p g) pins q is)
 
 none_differ : (a b : Bool) (x : Change) → (if differ a b then Some x else None) ≡ None → (a ≡ b → ⊥) → ⊥
@@ -98,7 +98,7 @@ unprobed p pins h e g no_line is high low none =
 
 module _ (p : Plan) (pins : List Pin) (h : List Edge) (e : Edge) (v : Change) (s : seen p pins h e ≡ Some v) where
   -- what the edge moves is what was seen
-  signal_is : signal_of p pins e ≡ Some v.signal
+  pub signal_is : signal_of p pins e ≡ Some v.signal
   signal_is = by_signal (signal_of p pins e) refl s
     where
       same : (a b : Change) → Some a ≡ Some b → a ≡ b

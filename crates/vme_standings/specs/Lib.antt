@@ -49,3 +49,7 @@ pub mod Unseen
 pub mod Unions
 -- believe: when a bus is in a phase of the grants and BBSY*, and when a set covers it
 pub mod InPhase
+-- believe: when all that is known of a bus covers it
+pub mod Covers
+-- words: what the calls of `Standings` make of the changes of a capture
+pub mod Following
