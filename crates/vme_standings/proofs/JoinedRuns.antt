@@ -97,21 +97,25 @@ module _ (p : Plan) (ok : IsAccepted p) (probed : Probed) (pins : List Pin) (pro
 
       by_level : (c : ℕ) → c < 4 → has (slice_index_or probed.segments.grants c no_slots) s ≡ true → (is_segment p c s ≡ true) × (has (slice_index_or low.grants c no_slots) s ≡ is_place_low h c s)
       by_level zero few on =
-          let x : is_probed p pins chain.Bg0 s ≡ true = sym (probes chain.Bg0 s near) ∙ on in
-          (segment_of 0 s (λ y t same. subst (λ z. is_of_level p 0 z ≡ true) (sym same) (probed_works p ok pins chain.Bg0 t (subst (λ z. is_probed p pins chain.Bg0 z ≡ true) same y))) x,
-          and_that (is_probed p pins chain.Bg0 s) (is_segment_low h chain.Bg0 s) _ x (are.probed chain.Bg0 s) ∙ place_at 0 s few)
+          let x : is_probed p pins chain.Bg0 s ≡ true = sym (probes chain.Bg0 s near) ∙ on in (
+            segment_of 0 s (λ y t same. subst (λ z. is_of_level p 0 z ≡ true) (sym same) (probed_works p ok pins chain.Bg0 t (subst (λ z. is_probed p pins chain.Bg0 z ≡ true) same y))) x,
+            and_that (is_probed p pins chain.Bg0 s) (is_segment_low h chain.Bg0 s) _ x (are.probed chain.Bg0 s) ∙ place_at 0 s few,
+          )
       by_level (suc zero) few on =
-          let x : is_probed p pins chain.Bg1 s ≡ true = sym (probes chain.Bg1 s near) ∙ on in
-          (segment_of 1 s (λ y t same. subst (λ z. is_of_level p 1 z ≡ true) (sym same) (probed_works p ok pins chain.Bg1 t (subst (λ z. is_probed p pins chain.Bg1 z ≡ true) same y))) x,
-          and_that (is_probed p pins chain.Bg1 s) (is_segment_low h chain.Bg1 s) _ x (are.probed chain.Bg1 s) ∙ place_at 1 s few)
+          let x : is_probed p pins chain.Bg1 s ≡ true = sym (probes chain.Bg1 s near) ∙ on in (
+            segment_of 1 s (λ y t same. subst (λ z. is_of_level p 1 z ≡ true) (sym same) (probed_works p ok pins chain.Bg1 t (subst (λ z. is_probed p pins chain.Bg1 z ≡ true) same y))) x,
+            and_that (is_probed p pins chain.Bg1 s) (is_segment_low h chain.Bg1 s) _ x (are.probed chain.Bg1 s) ∙ place_at 1 s few,
+          )
       by_level (suc (suc zero)) few on =
-          let x : is_probed p pins chain.Bg2 s ≡ true = sym (probes chain.Bg2 s near) ∙ on in
-          (segment_of 2 s (λ y t same. subst (λ z. is_of_level p 2 z ≡ true) (sym same) (probed_works p ok pins chain.Bg2 t (subst (λ z. is_probed p pins chain.Bg2 z ≡ true) same y))) x,
-          and_that (is_probed p pins chain.Bg2 s) (is_segment_low h chain.Bg2 s) _ x (are.probed chain.Bg2 s) ∙ place_at 2 s few)
+          let x : is_probed p pins chain.Bg2 s ≡ true = sym (probes chain.Bg2 s near) ∙ on in (
+            segment_of 2 s (λ y t same. subst (λ z. is_of_level p 2 z ≡ true) (sym same) (probed_works p ok pins chain.Bg2 t (subst (λ z. is_probed p pins chain.Bg2 z ≡ true) same y))) x,
+            and_that (is_probed p pins chain.Bg2 s) (is_segment_low h chain.Bg2 s) _ x (are.probed chain.Bg2 s) ∙ place_at 2 s few,
+          )
       by_level (suc (suc (suc zero))) few on =
-          let x : is_probed p pins chain.Bg3 s ≡ true = sym (probes chain.Bg3 s near) ∙ on in
-          (segment_of 3 s (λ y t same. subst (λ z. is_of_level p 3 z ≡ true) (sym same) (probed_works p ok pins chain.Bg3 t (subst (λ z. is_probed p pins chain.Bg3 z ≡ true) same y))) x,
-          and_that (is_probed p pins chain.Bg3 s) (is_segment_low h chain.Bg3 s) _ x (are.probed chain.Bg3 s) ∙ place_at 3 s few)
+          let x : is_probed p pins chain.Bg3 s ≡ true = sym (probes chain.Bg3 s near) ∙ on in (
+            segment_of 3 s (λ y t same. subst (λ z. is_of_level p 3 z ≡ true) (sym same) (probed_works p ok pins chain.Bg3 t (subst (λ z. is_probed p pins chain.Bg3 z ≡ true) same y))) x,
+            and_that (is_probed p pins chain.Bg3 s) (is_segment_low h chain.Bg3 s) _ x (are.probed chain.Bg3 s) ∙ place_at 3 s few,
+          )
       by_level (suc (suc (suc (suc n)))) few on = absurd (omega arith)
 
   busy_is : is_line_left_low lines on_line.Bbsy ≡ line p h wire.Bbsy
