@@ -1,5 +1,5 @@
--- What the calls of `Standings` make of a capture, one after the other. A list has its newest change
--- first.
+-- What the calls of `Standings` make of a capture, one after the other. A list has its newest
+-- change first.
 use Rattle.std.specs.Prelude.{◌≡◌, ℕ, true, false, List, [], ◌∷◌}
 use Rattle.std.specs.Option.{option_map_or}
 use Rattle.vme_model.specs.declared.sets.ChainId.{ChainId}

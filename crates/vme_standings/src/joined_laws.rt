@@ -50,9 +50,9 @@ ghost use Rattle.vme_standings.specs.declared.standings.Standings.{Standings};
 /// covers, with the hidden moves, every list of edges that shows them. For each such list the
 /// driver of the newest change is among those who may have made it: it is never that nobody may.
 ///
-/// So it is for captures: what is known behind one, with the hidden moves, covers every bus that shows
-/// it; if a change may be made by nobody, no capture is possible that ends with that change; and no
-/// capture is that begins on a running bus with levels that are refused.
+/// So it is for captures: what is known behind one, with the hidden moves, covers every bus that
+/// shows it. If nobody may have made a change, no capture is possible that ends with it. Nor is one
+/// that begins on a running bus with levels that are refused.
 ///
 /// What covers a bus tells of whoever holds it, or that nobody may hold it, and of whoever pulls an
 /// interrupt line.
