@@ -1,5 +1,6 @@
--- When what is known of the whole bus covers it, by looking back through the list of edges: what the
--- probes see is as it is, and each part may stand as it stands. A list has its newest edge first.
+-- When what is known of the whole bus covers it, by looking back through the list of edges: what
+-- the probes see is as it is, and each part may stand as it stands. A list has its newest edge
+-- first.
 use Rattle.std.specs.Prelude.{◌≡◌, ◌==◌, ◌&&◌, ◌<◌, ℕ, zero, suc, Bool, true, false, Option, Some, None, List, is_some}
 use Rattle.std.specs.Option.{option_map_or}
 use Rattle.vme_model.specs.declared.sets.ChainId.{ChainId}
@@ -51,7 +52,9 @@ AreProbed p pins set =
     (c : ChainId) (s : ℕ) → s < 22 → has_segment set c s ≡ is_probed p pins c s
 
 -- the shared lines are low that are said to be, and exactly those segments that a probe sees low
-pub record AreLevels (p : Plan) (pins : List Pin) (h : List Edge) (lines : Levels) (low : Segments) : Type 0 where
+pub record AreLevels
+    (p : Plan) (pins : List Pin) (h : List Edge) (lines : Levels) (low : Segments)
+    : Type 0 where
   pub shared : (l : Line) → is_line l ≡ true → is_line_left_low lines l ≡ is_line_low p h l
   pub probed : (c : ChainId) (s : ℕ)
       → has_segment low c s ≡ (is_probed p pins c s && is_segment_low h c s)

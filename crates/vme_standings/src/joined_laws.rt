@@ -5,7 +5,7 @@
 ghost use Rattle.std.specs.Prelude.{◌≡◌, ◌∷◌, ◌++◌, ◌&&◌, ◌||◌, ℕ, true, false, Some, None, List, []};
 ghost use Rattle.vme_captures.specs.Changes.{agrees, seen};
 ghost use Rattle.vme_captures.specs.Levels.{is_line_left_low};
-ghost use Rattle.vme_captures.specs.Possible.{AgreeEach, Sighting, sightings};
+ghost use Rattle.vme_captures.specs.Possible.{AgreeEach, Capture, Explains, IsPossible, Sighting, sightings};
 ghost use Rattle.vme_captures.specs.declared.signals.Change.{Change};
 ghost use Rattle.vme_captures.specs.declared.levels.Levels.{Levels};
 ghost use Rattle.vme_captures.specs.declared.signals.Line.TheVariants as line;
@@ -20,7 +20,7 @@ ghost use Rattle.vme_model.specs.declared.signals.Wire.TheVariants.{Bbsy, Irq};
 ghost use Rattle.vme_standings.specs.Behind.{IsBehind};
 ghost use Rattle.vme_standings.specs.Covers.{Among, AreLevels, AreProbed, Covers};
 ghost use Rattle.vme_standings.specs.Driving.{AreDrivers};
-ghost use Rattle.vme_standings.specs.Following.{Follows};
+ghost use Rattle.vme_standings.specs.Following.{Follows, HeadSays, StartsAs};
 ghost use Rattle.vme_standings.specs.Hidden.{HasMoved};
 ghost use Rattle.vme_standings.specs.Phases.{has_phase, is_held};
 ghost use Rattle.vme_standings.specs.RequestSets.{may_be};
@@ -49,6 +49,10 @@ ghost use Rattle.vme_standings.specs.declared.standings.Standings.{Standings};
 /// So, if what is known first covers the edges before a capture, what is known behind its changes
 /// covers, with the hidden moves, every list of edges that shows them. For each such list the
 /// driver of the newest change is among those who may have made it: it is never that nobody may.
+///
+/// So it is for captures: what is known behind one, with the hidden moves, covers every bus that
+/// shows it. If nobody may have made a change, no capture is possible that ends with it. Nor is one
+/// that begins on a running bus with levels that are refused.
 ///
 /// What covers a bus tells of whoever holds it, or that nobody may hold it, and of whoever pulls an
 /// interrupt line.
@@ -99,6 +103,20 @@ pub fn the_bus_stays_covered()
         → sightings p pins g h ≡ s ∷ others → AgreeEach (c ∷ earlier) (s ∷ others)
         → Covers p pins g first → Follows p probed first earlier behind
         → HasMoved p probed behind last → AreDrivers p probed last c d → Among d s.driver }
+    ensures explained { (p : Plan) (probed : Probed) (c : Capture) (g h : List Edge)
+        (first behind last : Standings) → IsAccepted p → c.version ≡ probed.version
+        → AreProbed p c.pins probed.segments → Explains p c g h → StartsAs p probed c first
+        → Follows p probed first c.changes behind → HasMoved p probed behind last
+        → Covers p c.pins (h ++ g) last }
+    ensures possible { (p : Plan) (probed : Probed) (c : Capture) (v : Change)
+        (earlier : List Change) (first behind last : Standings) (d : Drivers) → IsAccepted p
+        → c.version ≡ probed.version → AreProbed p c.pins probed.segments
+        → c.changes ≡ v ∷ earlier → IsPossible p c → StartsAs p probed c first
+        → Follows p probed first earlier behind → HasMoved p probed behind last
+        → AreDrivers p probed last v d → is_nobody d ≡ false }
+    ensures begun { (p : Plan) (probed : Probed) (c : Capture) (lines : Levels) (low : Segments)
+        → IsAccepted p → c.version ≡ probed.version → AreProbed p c.pins probed.segments
+        → IsPossible p c → HeadSays p c lines low → CannotRun p probed lines low → ⊥ }
     ensures holder { (p : Plan) (pins : List Pin) (h : List Edge) (st : Standings) (s : ℕ)
         → Covers p pins h st → drive h (Slot s) Bbsy ≡ true
         → (first : ℕ) × (has_phase st.phases (Held s first) ≡ true) }

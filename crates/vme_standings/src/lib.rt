@@ -3,8 +3,8 @@
 //!
 //! All combinations of these sets count. A set may hold a way too many, and never one too few:
 //! `laws` proves that of the interrupt requests, and of who drives AS* and DTACK*, `front_laws` of
-//! how far an acknowledge has come, and `grant_laws` of how the grants and BBSY* stand. `joined_laws`
-//! proves it of all of them together, for every list of edges that shows a capture.
+//! how far an acknowledge has come, and `grant_laws` of how the grants and BBSY* stand.
+//! `joined_laws` proves it of all of them together, for every list of edges that shows a capture.
 //!
 //! [`Standings`] has them all. It begins at power-up or on a running bus. At each change
 //! `with_hidden` adds the edges that no probe sees, `drivers` says who may have made the change, and

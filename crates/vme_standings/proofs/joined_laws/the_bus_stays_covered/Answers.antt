@@ -1,4 +1,7 @@
+use Rattle.std.proofs.Common.{subst}
+use Rattle.vme_captures.specs.Possible.{AgreeEach, sightings}
 use Rattle.vme_standings.proofs.JoinedBegins.{power_up}
+use Rattle.vme_standings.proofs.JoinedCaptures.{explained, head_runs, never_impossible}
 use Rattle.vme_standings.proofs.JoinedHidden.{moved_covers, unseen_covered}
 use Rattle.vme_standings.proofs.JoinedLists.{followed, newest_by, newest_somebody}
 use Rattle.vme_standings.proofs.JoinedRows.{seen_step, somebody}
@@ -23,6 +26,14 @@ returns c = record {
       newest_somebody p ok probed pins probes g first covers h legal change earlier agree behind last follows moved d drivers;
   named = λ p pins probed g h change earlier s others first behind last d ok probes legal is agree covers follows moved drivers.
       newest_by p ok probed pins probes g first covers h legal change earlier s others is agree behind last follows moved d drivers;
+  explained = λ p probed capture g h first behind last ok version probes explains starts follows moved.
+      explained p ok probed capture version probes g explains.begins first starts h explains.legal capture.changes explains.shows behind last follows moved;
+  possible = λ p probed capture v earlier first behind last d ok version probes ends may starts follows moved drivers.
+      let x = may.explains in
+      never_impossible p ok probed capture version probes may.before x.begins first starts may.edges x.legal v earlier
+      (subst (λ cs. AgreeEach cs (sightings p capture.pins may.before may.edges)) ends x.shows) behind last follows moved d drivers;
+  begun = λ p probed capture lines low ok version probes may said cannot.
+      head_runs p ok probed capture version probes may.before may.explains.begins lines low said cannot;
   holder = λ p pins h st s covers on. holder_told p pins h st covers s on;
   free = λ p pins h st covers nobody. nobody_told p pins h st covers nobody;
   puller = λ p pins h st n s covers on low. puller_told p pins h st covers n s on low;
