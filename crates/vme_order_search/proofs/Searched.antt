@@ -1,6 +1,6 @@
 -- What a search keeps, step by step.
 use Rattle.std.proofs.Common.{◌≡◌, ◌≢◌, ◌⊎◌, inl, inr, ◌<◌, ◌≤◌, ◌+◌, ◌++◌, ◌||◌, ℕ, zero, suc, Bool, true, List, [], ◌∷◌, All, Some, length, refl, sym, ◌∙◌, subst, ap, arith}
-use Rattle.std.specs.Prelude.{◌==◌}
+use Rattle.std.specs.Prelude.{◌==◌, Result, Ok, Err, IfOk}
 use Rattle.std.specs.List.{slice_get}
 use Rattle.std.proofs.lemmas.Option.{slice_get_within}
 use Rattle.vme_moments.specs.Orders.{HasFarPlace}
@@ -9,6 +9,9 @@ use Rattle.vme_bus.specs.declared.states.BusState.{BusState}
 use Rattle.vme_bus.specs.Kinds.{kind_of}
 use Rattle.vme_order_search.specs.declared.layers.Beginning.{Beginning}
 use Rattle.vme_order_search.specs.declared.layers.Layer.{Layer}
+use Rattle.vme_order_search.specs.declared.OrderFault.{OrderFault}
+use Rattle.vme_order_search.specs.declared.search.Room.{Room}
+use Rattle.vme_order_search.specs.declared.search.Room.TheVariants.{Enough, Lacking}
 use Rattle.vme_order_search.specs.declared.search.Search.{Search}
 use Rattle.vme_order_search.specs.declared.taken.Taken.{Taken}
 use Rattle.vme_order_search.specs.declared.trails.Trail.{Trail}
@@ -22,6 +25,12 @@ use Rattle.vme_order_search.proofs.Lesser.{at_most_longer}
 use Rattle.vme_order_search.proofs.Lists.{length_more, one_there}
 use Rattle.vme_order_search.proofs.Longer.{ArePassed, cut_here, keep_more, layer_later, made_whole, next_one, none_longer, pass, path_before, path_there, stood_by_like, unfree_passed, with_path}
 use Rattle.vme_order_search.proofs.Sets.{at_least, below_least, one_set}
+
+-- what holds with room and without holds of each answer
+pub in_room : (r : Result Room OrderFault) (Is : Room → Type 0) → (r ≡ Ok Enough → Is Enough) → (r ≡ Ok Lacking → Is Lacking) → IfOk r Is
+in_room (Ok Enough) Is enough lacking = enough refl
+in_room (Ok Lacking) Is enough lacking = lacking refl
+in_room (Err f) Is enough lacking = tt
 
 -- ---- a place is passed
 

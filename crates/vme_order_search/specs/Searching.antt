@@ -13,6 +13,8 @@ use Rattle.vme_bus.specs.States.{IsStateOf}
 use Rattle.vme_order_search.specs.declared.layers.Beginning.{Beginning}
 use Rattle.vme_order_search.specs.declared.layers.Layer.{Layer}
 use Rattle.vme_order_search.specs.declared.search.Found.{Found}
+use Rattle.vme_order_search.specs.declared.search.Room.{Room}
+use Rattle.vme_order_search.specs.declared.search.Room.TheVariants.{Enough, Lacking}
 use Rattle.vme_order_search.specs.declared.search.Search.{Search}
 use Rattle.vme_order_search.specs.declared.taken.Taken.{Taken}
 use Rattle.vme_order_search.specs.declared.trails.Trail.{Trail}
@@ -132,10 +134,13 @@ pub record IsFit (s : Search) : Type 0 where
 abbrev pub IsBusOf : Task → BusState → Type 0
 IsBusOf t b = (places : List ℕ) × LeadsTo t places b
 
--- greater beginnings were left out, by a search of full width, only if there are too many
+-- something was left out, by a search of full width only if there are too many
+abbrev pub LeavesOut : Task → Search → Type 0
+LeavesOut t s = s.width ≡ 65536 → HasTooMany t.version t.plan t.slacks t.seen
+
+-- greater beginnings were left out only so
 abbrev pub IsCutRightly : Task → Search → Type 0
-IsCutRightly t s = s.is_cut ≡ true → s.width ≡ 65536
-    → HasTooMany t.version t.plan t.slacks t.seen
+IsCutRightly t s = s.is_cut ≡ true → LeavesOut t s
 
 -- a search has the legal beginnings of so many places
 pub record HasLayer (t : Task) (n : ℕ) (s : Search) : Type 0 where
@@ -153,6 +158,21 @@ pub record IsUnderWay (t : Task) (n m from : ℕ) (s : Search) : Type 0 where
   pub made : AreLonger t s.trail s.is_cut n m from s.layer.kept.items paths s.longer.kept.items longer
   pub sets : AreSets s.sets s.longer.kept.items longer
   pub cut : IsCutRightly t s
+
+-- it does so, and the m-th of those from which it goes on is this one
+pub record IsAt (t : Task) (n m from : ℕ) (front : Beginning) (s : Search) : Type 0 where
+  pub there : slice_get s.layer.kept.items m ≡ Some front
+  pub made : IsUnderWay t n m from s
+
+-- a place was tried after the m-th
+abbrev pub HasTried : Task → ℕ → ℕ → ℕ → Search → Room → Type 0
+HasTried t n m place s Enough = IsUnderWay t n m (place + 1) s
+HasTried t n m place s Lacking = IsUnderWay t n m place s × LeavesOut t s
+
+-- all places were tried after the m-th, or those below some place
+abbrev pub HasGoneOn : Task → ℕ → ℕ → Search → Room → Type 0
+HasGoneOn t n m s Enough = IsUnderWay t n (m + 1) 0 s
+HasGoneOn t n m s Lacking = ((from : ℕ) × IsUnderWay t n m from s) × LeavesOut t s
 
 -- a search has made those with one place more
 pub record HasLonger (t : Task) (n : ℕ) (s : Search) : Type 0 where

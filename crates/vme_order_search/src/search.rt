@@ -2,11 +2,10 @@
 //! those with one place more.
 
 ghost use Rattle.std.specs.Prelude.{◌≡◌, ◌≢◌, ◌⊎◌, ◌<◌, ◌≤◌, ◌+◌, [], ℕ, All, Err, IfErr, IfOk, Ok, OnOk, false, length, reverse, true};
-ghost use Rattle.std.specs.List.{slice_get};
 ghost use Rattle.vme_model.specs.Report.{trace_limit};
 ghost use Rattle.vme_moments.specs.Orders.{AreInOrder, AreNext, IsLongest};
 ghost use Rattle.vme_order_search.specs.Places.{IsNarrow};
-ghost use Rattle.vme_order_search.specs.Searching.{GoesOn, HasEnded, HasLayer, HasLonger, IsAnswer, IsFit, IsGrown, IsNextOf, IsSameSearch, IsUnderWay, LeadsTo, Task};
+ghost use Rattle.vme_order_search.specs.Searching.{GoesOn, HasEnded, HasGoneOn, HasLayer, HasLonger, HasTried, IsAnswer, IsAt, IsFit, IsGrown, IsNextOf, IsSameSearch, LeadsTo, Task};
 ghost use Rattle.vme_order_search.specs.TooMany.{HasTooMany};
 ghost use Rattle.vme_order_search.specs.declared.search.Search.{Search as SearchValue};
 
@@ -37,6 +36,15 @@ pub struct Found {
     pub order: Vec<u32>,
     /// The places that can come next after it, ascending. There is none if it is an order.
     pub next: Vec<u32>,
+}
+
+/// Whether a search has room for what a step of it comes to.
+#[derive(Clone, Copy, PartialEq, Eq, Debug)]
+enum Room {
+    /// It has, or nothing has to be kept.
+    Enough,
+    /// It has none, and leaves something out.
+    Lacking,
 }
 
 /// A search that keeps the least beginnings of each length, one of each kind.
@@ -105,36 +113,37 @@ impl Search {
         Ok(())
     }
 
-    /// Adds one whose places none has that is kept. Says whether there is no room for it.
+    /// Adds one whose places none has that is kept, if there is room.
     fn keep_new(
         &mut self,
         front: &Beginning,
         place: usize,
         taken: Taken,
         bus: BusKind,
-    ) -> Result<bool, OrderFault>
+    ) -> Result<Room, OrderFault>
         requires fit { IsFit self.old }
         requires narrow { IsNarrow taken }
         requires few { place < 4294967296 }
         ensures fit { OnOk result (IsFit self.new) }
         ensures same { OnOk result (IsSameSearch self.old self.new) }
-        ensures grown { result ≡ Ok false → (v : SearchValue)
+        ensures grown { result ≡ Ok Room.Enough → (v : SearchValue)
             × IsGrown self.old v front.now.step place taken bus
             × (self.new ≡ record v { sets = v.sets + 1 }) }
-        ensures full { result ≡ Ok true → (self.new ≡ self.old) × (self.old.width ≤ self.old.sets) }
+        ensures full { result ≡ Ok Room.Lacking
+            → (self.new ≡ self.old) × (self.old.width ≤ self.old.sets) }
         ensures fault { IfErr result (λ fault. fault ≡ OrderFault.NoMemory) }
     {
         if self.sets >= self.width {
-            return Ok(true);
+            return Ok(Room::Lacking);
         }
         self.push(front, place, taken, bus)?;
         self.sets += 1;
-        Ok(false)
+        Ok(Room::Enough)
     }
 
     /// Keeps a beginning with one place more, whose edge led to the state, if none of its kind is
-    /// kept. Says whether there is no room for it.
-    fn keep(&mut self, front: &Beginning, place: usize) -> Result<bool, OrderFault>
+    /// kept, and there is room.
+    fn keep(&mut self, front: &Beginning, place: usize) -> Result<Room, OrderFault>
         requires fit { IsFit self.old }
         requires narrow { IsNarrow front.now.taken }
         requires missing { front.now.taken.least ≤ place }
@@ -142,37 +151,31 @@ impl Search {
         requires few { place < 4294967296 }
         ensures fit { OnOk result (IsFit self.new) }
         ensures same { OnOk result (IsSameSearch self.old self.new) }
-        ensures kept { (t : Task) (n m : ℕ)
-            → slice_get self.old.layer.kept.items m ≡ Some front.now
-            → IsUnderWay t n m place self.old → GoesOn t front.now place self.old.state
-            → result ≡ Ok false → IsUnderWay t n m (place + 1) self.new }
-        ensures cut { (t : Task) (n m : ℕ)
-            → slice_get self.old.layer.kept.items m ≡ Some front.now
-            → IsUnderWay t n m place self.old → GoesOn t front.now place self.old.state
-            → result ≡ Ok true → IsUnderWay t n m place self.new
-            × (self.new.width ≡ 65536 → HasTooMany t.version t.plan t.slacks t.seen) }
+        ensures kept { (t : Task) (n m : ℕ) → IsAt t n m place front.now self.old
+            → GoesOn t front.now place self.old.state
+            → IfOk result (HasTried t n m place self.new) }
         ensures fault { IfErr result (λ fault. fault ≡ OrderFault.NoMemory) }
     {
         let taken = front.taken.with(place);
         let bus = self.state.to_kind();
         match self.longer.find(&taken, &bus) {
-            Match::Kind => Ok(false),
+            Match::Kind => Ok(Room::Enough),
             Match::Places => {
                 self.push(front, place, taken, bus)?;
-                Ok(false)
+                Ok(Room::Enough)
             }
             Match::Nothing => self.keep_new(front, place, taken, bus),
         }
     }
 
-    /// Tries a place that can come next after a beginning. Says whether there is no room for what
-    /// comes of it.
+    /// Tries a place that can come next after a beginning, and keeps what comes of it if there is
+    /// room.
     fn try_place(
         &mut self,
         seen: &[Seen],
         front: &Beginning,
         place: usize,
-    ) -> Result<bool, OrderFault>
+    ) -> Result<Room, OrderFault>
         requires fit { IsFit self.old }
         requires narrow { IsNarrow front.now.taken }
         requires few { length seen.now < 4294967296 }
@@ -181,22 +184,16 @@ impl Search {
         ensures fit { OnOk result (IsFit self.new) }
         ensures same { OnOk result (IsSameSearch self.old self.new) }
         ensures kept { (t : Task) (n m : ℕ) → t.seen ≡ seen.now
-            → slice_get self.old.layer.kept.items m ≡ Some front.now
-            → IsUnderWay t n m place self.old → IsNextOf t front.now place
-            → result ≡ Ok false → IsUnderWay t n m (place + 1) self.new }
-        ensures cut { (t : Task) (n m : ℕ) → t.seen ≡ seen.now
-            → slice_get self.old.layer.kept.items m ≡ Some front.now
-            → IsUnderWay t n m place self.old → IsNextOf t front.now place
-            → result ≡ Ok true → IsUnderWay t n m place self.new
-            × (self.new.width ≡ 65536 → HasTooMany t.version t.plan t.slacks t.seen) }
+            → IsAt t n m place front.now self.old → IsNextOf t front.now place
+            → IfOk result (HasTried t n m place self.new) }
         ensures fault { IfErr result (λ fault. fault ≡ OrderFault.NoMemory) }
     {
         self.state.set_kind(&front.bus);
         if self.state.step(seen[place].edge).is_err() {
-            return Ok(false);
+            return Ok(Room::Enough);
         }
         if place - front.taken.least() >= WINDOW {
-            return Ok(true);
+            return Ok(Room::Lacking);
         }
         self.keep(front, place)
     }
@@ -210,42 +207,34 @@ impl Search {
         self.width < MOST_SETS && self.sets >= self.width
     }
 
-    /// Goes on from a beginning with each place that can come next. Says whether there is no room
-    /// for all.
+    /// Goes on from a beginning with each place that can come next, as long as there is room.
     fn go_on(
         &mut self,
         seen: &[Seen],
         slacks: &Slacks,
         front: &Beginning,
-    ) -> Result<bool, OrderFault>
+    ) -> Result<Room, OrderFault>
         requires fit { IsFit self.old }
         requires narrow { IsNarrow front.now.taken }
         requires few { length seen.now < 4294967296 }
         requires ascending { AreInOrder seen.now }
         ensures fit { OnOk result (IsFit self.new) }
         ensures same { OnOk result (IsSameSearch self.old self.new) }
-        ensures whole { (t : Task) (n m : ℕ) → t.seen ≡ seen.now → t.slacks ≡ slacks.now
-            → slice_get self.old.layer.kept.items m ≡ Some front.now
-            → IsUnderWay t n m 0 self.old → result ≡ Ok false → IsUnderWay t n (m + 1) 0 self.new }
-        ensures cut { (t : Task) (n m : ℕ) → t.seen ≡ seen.now → t.slacks ≡ slacks.now
-            → slice_get self.old.layer.kept.items m ≡ Some front.now
-            → IsUnderWay t n m 0 self.old → result ≡ Ok true
-            → ((from : ℕ) × IsUnderWay t n m from self.new)
-            × (self.new.width ≡ 65536 → HasTooMany t.version t.plan t.slacks t.seen) }
+        ensures kept { (t : Task) (n m : ℕ) → t.seen ≡ seen.now → t.slacks ≡ slacks.now
+            → IsAt t n m 0 front.now self.old → IfOk result (HasGoneOn t n m self.new) }
         ensures fault { IfErr result (λ fault. fault ≡ OrderFault.NoMemory) }
     {
         let mut from = front.taken.least();
         'places: while !self.is_done() {
             let Some(place) = next_free(seen, slacks, &front.taken, from) else {
-                return Ok(false);
+                return Ok(Room::Enough);
             };
-            let is_full = self.try_place(seen, front, place)?;
-            if is_full {
-                return Ok(true);
+            match self.try_place(seen, front, place)? {
+                Room::Enough => from = place + 1,
+                Room::Lacking => return Ok(Room::Lacking),
             }
-            from = place + 1;
         }
-        Ok(true)
+        Ok(Room::Lacking)
     }
 
     /// Finds the beginnings with one place more.
@@ -266,10 +255,12 @@ impl Search {
         self.sets = 0;
         for index in 0..self.layer.len() {
             let front = self.layer.get(index);
-            let is_full = self.go_on(seen, slacks, &front)?;
-            if is_full {
-                self.is_cut = true;
-                return Ok(());
+            match self.go_on(seen, slacks, &front)? {
+                Room::Enough => {}
+                Room::Lacking => {
+                    self.is_cut = true;
+                    return Ok(());
+                }
             }
         }
         Ok(())

@@ -1,5 +1,6 @@
-use Rattle.std.proofs.Common.{rules, ◌≡◌, ◌∙◌, Ok, ap, refl, arith, length}
+use Rattle.std.proofs.Common.{rules, ◌≡◌, ◌∙◌, ap, refl, subst, arith, length}
 use Rattle.vme_order_search.specs.declared.layers.Layer.{Layer}
+use Rattle.vme_order_search.specs.Searching.{HasGoneOn}
 use Rattle.vme_order_search.proofs.Searched.{all_longer, begins, cut_layer, cut_longer}
 use Rattle.vme_order_search.proofs.search.Search.lengthen.Goals as goal
 
@@ -13,27 +14,27 @@ loop-index-init c = (
 
 pub loop-index-preserved : goal.loop-index-preserved
 loop-index-preserved c =
-    let same = c.in_ok-is_full.ensures.same in
+    let same = c.in_ok-go_on.ensures.same in
     let was = c.loop-index.invariant in (
-      c.in_ok-is_full.ensures.fit,
+      c.in_ok-go_on.ensures.fit,
       same.0 ∙ was.1,
       same.1 ∙ was.2,
-      λ t n eq eqs h. c.go_on.ensures.whole t n c.loop-index.index eq eqs c.get-front.ensures
-          (was.3 t n eq eqs h) (c.in_ok-is_full.was ∙ ap Ok c.if-is_full.false),
+      λ t n eq eqs h. subst (λ r. HasGoneOn t n c.loop-index.index c.go_on.new.self r) c.in-Enough.is
+          (c.in_ok-go_on.ensures.kept t n c.loop-index.index eq eqs (record { there = c.get-front.ensures; made = was.3 t n eq eqs h })),
     )
 
-pub returns-then-is_full-clause-layer : goal.returns-then-is_full-clause-layer
-returns-then-is_full-clause-layer c t n eq eqs h =
+pub returns-in-Lacking-clause-layer : goal.returns-in-Lacking-clause-layer
+returns-in-Lacking-clause-layer c t n eq eqs h =
     let was = c.loop-index.invariant in
-    let cut = c.go_on.ensures.cut t n c.loop-index.index eq eqs c.get-front.ensures
-    (was.3 t n eq eqs h) (c.in_ok-is_full.was ∙ ap Ok c.if-is_full.true) in
+    let cut = subst (λ r. HasGoneOn t n c.loop-index.index c.go_on.new.self r) c.in-Lacking.is
+    (c.in_ok-go_on.ensures.kept t n c.loop-index.index eq eqs (record { there = c.get-front.ensures; made = was.3 t n eq eqs h })) in
     cut_layer t n c.loop-index.index cut.0.0 c.go_on.new.self cut.0.1 cut.1
 
-pub returns-then-is_full-clause-longer : goal.returns-then-is_full-clause-longer
-returns-then-is_full-clause-longer c t n eq eqs h =
+pub returns-in-Lacking-clause-longer : goal.returns-in-Lacking-clause-longer
+returns-in-Lacking-clause-longer c t n eq eqs h =
     let was = c.loop-index.invariant in
-    let cut = c.go_on.ensures.cut t n c.loop-index.index eq eqs c.get-front.ensures
-    (was.3 t n eq eqs h) (c.in_ok-is_full.was ∙ ap Ok c.if-is_full.true) in
+    let cut = subst (λ r. HasGoneOn t n c.loop-index.index c.go_on.new.self r) c.in-Lacking.is
+    (c.in_ok-go_on.ensures.kept t n c.loop-index.index eq eqs (record { there = c.get-front.ensures; made = was.3 t n eq eqs h })) in
     cut_longer t n c.loop-index.index cut.0.0 c.go_on.new.self cut.0.1
 
 pub returns-clause-longer : goal.returns-clause-longer

@@ -18,7 +18,9 @@ nothing = record {
 }
 
 pub returns-then-is_err-clause-kept : goal.returns-then-is_err-clause-kept
-returns-then-is_err-clause-kept c t n m eq there w next is =
+returns-then-is_err-clause-kept c t n m eq here next =
+    let there = here.there in
+    let w = here.made in
     let place = c.args.place in
     let old = c.args.self.now in
     let front = c.args.front.now in
@@ -34,8 +36,10 @@ returns-then-is_err-clause-kept c t n m eq there w next is =
     (subst (λ (x : BusState). IsBusOf t x) (sym (c.step.ensures.refused (ap is_ok e.1)))
     (w.paths m, given_leads t old.state b front.bus (w.paths m) c.set_kind.ensures w.bus first.leads))
 
-pub returns-then-place-least-ge-WINDOW-clause-cut : goal.returns-then-place-least-ge-WINDOW-clause-cut
-returns-then-place-least-ge-WINDOW-clause-cut c t n m eq there w next is =
+pub returns-then-place-least-ge-WINDOW-clause-kept : goal.returns-then-place-least-ge-WINDOW-clause-kept
+returns-then-place-least-ge-WINDOW-clause-kept c t n m eq here next =
+    let there = here.there in
+    let w = here.made in
     let place = c.args.place in
     let old = c.args.self.now in
     let front = c.args.front.now in
@@ -57,7 +61,9 @@ returns-then-place-least-ge-WINDOW-clause-cut c t n m eq there w next is =
     )
 
 pub returns-clause-kept : goal.returns-clause-kept
-returns-clause-kept c t n m eq there w next is =
+returns-clause-kept c t n m eq here next =
+    let there = here.there in
+    let w = here.made in
     let place = c.args.place in
     let old = c.args.self.now in
     let front = c.args.front.now in
@@ -72,22 +78,4 @@ returns-clause-kept c t n m eq there w next is =
     let first = front_path t n m place old front w there in
     let bus : IsBusOf t c.step.new.self =
     (place ∷ w.paths m, (goes (w.paths m) first.leads first.taken).0) in
-    c.keep.ensures.kept t n m there (other_state t n m place old c.step.new.self w bus) goes is
-
-pub returns-clause-cut : goal.returns-clause-cut
-returns-clause-cut c t n m eq there w next is =
-    let place = c.args.place in
-    let old = c.args.self.now in
-    let front = c.args.front.now in
-    let b = c.set_kind.new.self in
-    let s : Seen = get_or c.args.seen.now place nothing in
-    let at : slice_get t.seen place ≡ Some s = ap (λ l. slice_get l place) eq
-    ∙ slice_get-get_or c.args.seen.now place nothing c.requires.within in
-    let f = no_error c.step.result (sym c.if-is_err.ensures.value) in
-    let goes : GoesOn t front place c.step.new.self = goes_on t place s front old.state b
-    c.step.new.self f.0 c.set_kind.ensures w.bus at
-    (λ version p h of. sym f.1 ∙ c.step.ensures.answer version p h of) c.step.ensures.state next in
-    let first = front_path t n m place old front w there in
-    let bus : IsBusOf t c.step.new.self =
-    (place ∷ w.paths m, (goes (w.paths m) first.leads first.taken).0) in
-    c.keep.ensures.cut t n m there (other_state t n m place old c.step.new.self w bus) goes is
+    c.keep.ensures.kept t n m (record { there = there; made = other_state t n m place old c.step.new.self w bus }) goes
