@@ -15,10 +15,10 @@ use Rattle.vme_model.specs.Numbered.{Numbered, edges_in, numbered, numbered_on, 
 use Rattle.vme_explain.specs.Marked.{IsMarksOf}
 use Rattle.vme_explain.specs.Traced.{OfTrace}
 use Rattle.vme_explain.proofs.Witnessed.{cycles_within}
-use Rattle.vme_engines.specs.declared.following.Following.{Following}
+use Rattle.vme_following.specs.declared.following.Following.{Following}
 use Rattle.vme_reading.specs.Outcomes.{bench}
-use Rattle.vme_engines.specs.Followed.{IsAfter}
-use Rattle.vme_engines.proofs.FollowedEdges.{edges_on, kept_plan}
+use Rattle.vme_following.specs.Followed.{IsAfter}
+use Rattle.vme_following.proofs.FollowedEdges.{edges_on, kept_plan}
 
 module _ (p : Plan) (v : Version) (es : List Edge) (f : Following) (is : IsAfter p v es f) where
   pub edges_are : edges_in (numbered (bench p v) es) ≡ f.bus.history

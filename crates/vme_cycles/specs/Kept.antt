@@ -7,7 +7,7 @@ use Rattle.vme_model.specs.Plan.{Plan}
 use Rattle.vme_model.specs.Numbered.{Numbered, numbered}
 use Rattle.vme_model.specs.Verdict.{kept}
 use Rattle.vme_reading.specs.Outcomes.{bench}
-use Rattle.vme_engines.specs.Followed.{IsAfter}
+use Rattle.vme_following.specs.Followed.{IsAfter}
 use Rattle.vme_cycles.specs.declared.record.LastCycle.{LastCycle}
 use Rattle.vme_cycles.specs.declared.record.LastTenure.{LastTenure}
 use Rattle.vme_cycles.specs.declared.tracking.Tracking.{Tracking}

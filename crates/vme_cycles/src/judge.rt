@@ -20,17 +20,6 @@ use vme_model::{Driver, Edge, Wire};
 use vme_reading::{EngineFault, Judge, Status, read};
 use vme_trace::{Fault, flush, put};
 
-/// The status of a trace with so many refused edges.
-fn status_of(refused: u64) -> Status
-    ensures { result ≡ status_with refused }
-{
-    if refused == 0 {
-        Status::Done
-    } else {
-        Status::SomeRefused
-    }
-}
-
 /// Writes two lines.
 fn write_both<W: Write>(first: &Line, second: &Line, out: &mut W) -> Result<(), Fault>
     ensures ok { OnOk result (Appends (W.contents out.old) (W.contents out.new)
@@ -131,7 +120,7 @@ impl Tracking {
             totals_line(self.cycle.ended, self.tenure.ended, refused).as_slice(),
         )?;
         flush(out)?;
-        Ok(status_of(refused))
+        Ok(Status::of_refused(refused))
     }
 }
 

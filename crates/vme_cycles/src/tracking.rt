@@ -18,7 +18,7 @@ use crate::record::{LastCycle, LastTenure, Sight};
 use arrayvec::ArrayVec;
 use std::io::Write;
 use vme_bus::Bus;
-use vme_engines::Following;
+use vme_following::Following;
 use vme_explain::since;
 use vme_model::{Driver, Edge, Wire};
 use vme_trace::{Fault, put};

@@ -21,7 +21,7 @@ use Rattle.vme_reading.specs.declared.Status.{Status}
 use Rattle.vme_reading.specs.declared.EngineFault.TheVariants as fault
 use Rattle.vme_reading.specs.Streams.{ReadNothing, streams}
 use Rattle.vme_reading.specs.Outcomes.{Answer, Lent, LentAsking, scenario_limit, status_with}
-use Rattle.vme_engines.specs.Totals.{AddsInput, IsWhole}
+use Rattle.vme_summary.specs.Totals.{AddsInput, IsWhole}
 use Rattle.vme_reading.proofs.WrittenLines.{front_behind, front_of_more}
 use Rattle.vme_command_line.specs.declared.Job.{Job}
 use Rattle.vme_command_line.specs.Asked.{texts_of}

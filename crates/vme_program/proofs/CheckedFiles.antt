@@ -13,13 +13,13 @@ use Rattle.vme_trace.specs.declared.Fault.TheVariants.{Write}
 use Rattle.vme_trace.specs.Writing.{AppendsFront}
 use Rattle.vme_reading.specs.declared.Status.{Status}
 use Rattle.vme_reading.specs.declared.Status.TheVariants.{Done, SomeRefused}
-use Rattle.vme_engines.specs.declared.checks.Finding.{Finding}
-use Rattle.vme_engines.specs.declared.checks.Finding.TheVariants.{Legal, Illegal}
+use Rattle.vme_check.specs.declared.checks.Finding.{Finding}
+use Rattle.vme_check.specs.declared.checks.Finding.TheVariants.{Legal, Illegal}
 use Rattle.vme_reading.specs.declared.EngineFault.{EngineFault}
 use Rattle.vme_reading.specs.declared.EngineFault.TheVariants as fault
 use Rattle.vme_reading.specs.Streams.{ReadNothing, streams}
 use Rattle.vme_reading.specs.Outcomes.{Answer, Lent, scenario_limit}
-use Rattle.vme_engines.specs.Checking.{Finds, FindsNothing, IsFound}
+use Rattle.vme_check.specs.Checking.{Finds, FindsNothing, IsFound}
 use Rattle.vme_reading.specs.Readings.{ReadsInput, ReadsLent}
 use Rattle.vme_reading.specs.Steps.{IsNoPlan}
 use Rattle.vme_reading.proofs.WrittenLines.{front_behind}

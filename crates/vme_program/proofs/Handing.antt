@@ -8,7 +8,7 @@ use Rattle.vme_reading.specs.declared.Status.{Status}
 use Rattle.vme_reading.specs.declared.EngineFault.TheVariants as fault
 use Rattle.vme_reading.specs.Streams.{ReadNothing, WroteNothing, streams}
 use Rattle.vme_reading.specs.Outcomes.{Answer, LentAsking}
-use Rattle.vme_engines.specs.Joining.{Joins}
+use Rattle.vme_replay.specs.Joining.{Joins}
 use Rattle.vme_reading.specs.Readings.{ReadsInput, ReadsLent}
 use Rattle.vme_reading.specs.declared.EngineFault.{EngineFault}
 use Rattle.vme_races.specs.Other.{Orders}

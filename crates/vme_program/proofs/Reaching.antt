@@ -9,7 +9,7 @@ use Rattle.vme_scenario.specs.Format.{scenario as read}
 use Rattle.vme_goals.specs.declared.goals.Goal.{Goal}
 use Rattle.vme_reach.specs.Needs.{hindrance_of}
 use Rattle.vme_reading.specs.declared.EngineFault.TheVariants as fault
-use Rattle.vme_engines.specs.Found.{Found, Finds, found_answer}
+use Rattle.vme_drive.specs.Found.{Found, Finds, found_answer}
 use Rattle.vme_reading.specs.Outcomes.{Answer, Lent, scenario_limit}
 use Rattle.vme_command_line.specs.declared.Job.{Job}
 use Rattle.vme_command_line.specs.declared.Job.TheVariants.{OnScenario}

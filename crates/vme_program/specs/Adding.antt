@@ -13,7 +13,7 @@ use Rattle.vme_summary.specs.Sums.{Traces}
 use Rattle.vme_summary.specs.Summed.{AreSumsOf, OfSums}
 use Rattle.vme_reading.specs.declared.Status.{Status}
 use Rattle.vme_reading.specs.Outcomes.{status_with}
-use Rattle.vme_engines.specs.Totals.{IsWhole}
+use Rattle.vme_summary.specs.Totals.{IsWhole}
 use Rattle.vme_program.specs.CheckingFiles.{Writes}
 use Rattle.vme_program.specs.Together.{Counted, AreCounted, CutsOff, IsCounted, WereCounted, answers_of, counted_line, counted_lines, how_many, names_of, some_faulty, sums_of}
 use Rattle.vme_program.specs.declared.sums.Added.{Added}

@@ -7,13 +7,13 @@ use Rattle.vme_scenario.specs.Errors.{IsErrorOf}
 use Rattle.vme_scenario.specs.Format.{scenario as read}
 use Rattle.vme_trace.specs.declared.Fault.TheVariants.{Write}
 use Rattle.vme_trace.specs.Writing.{AppendsFront}
-use Rattle.vme_engines.specs.declared.checks.Finding.{Finding}
-use Rattle.vme_engines.specs.declared.checks.Finding.TheVariants.{Illegal}
+use Rattle.vme_check.specs.declared.checks.Finding.{Finding}
+use Rattle.vme_check.specs.declared.checks.Finding.TheVariants.{Illegal}
 use Rattle.vme_reading.specs.declared.Status.TheVariants.{Done, SomeRefused}
 use Rattle.vme_reading.specs.declared.EngineFault.TheVariants as fault
 use Rattle.vme_reading.specs.Streams.{streams}
 use Rattle.vme_reading.specs.Outcomes.{Answer, scenario_limit}
-use Rattle.vme_engines.specs.Checking.{FindsNothing, IsFound, finding_line}
+use Rattle.vme_check.specs.Checking.{FindsNothing, IsFound, finding_line}
 use Rattle.vme_escapes.specs.Shown.{escaped}
 use Rattle.vme_program.specs.declared.faults.ProgramFault.{ProgramFault}
 use Rattle.vme_program.specs.declared.faults.ProgramFault.TheVariants.{CannotRead, Engine, InTrace}

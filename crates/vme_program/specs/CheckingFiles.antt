@@ -6,8 +6,8 @@ use Rattle.vme_scenario.specs.Format.{scenario as read}
 use Rattle.vme_trace.specs.declared.Fault.{Fault}
 use Rattle.vme_trace.specs.declared.Fault.TheVariants.{Write}
 use Rattle.vme_trace.specs.Writing.{AppendsFront}
-use Rattle.vme_engines.specs.declared.checks.Finding.{Finding}
-use Rattle.vme_engines.specs.declared.checks.Finding.TheVariants.{Legal, Illegal}
+use Rattle.vme_check.specs.declared.checks.Finding.{Finding}
+use Rattle.vme_check.specs.declared.checks.Finding.TheVariants.{Legal, Illegal}
 use Rattle.vme_reading.specs.Outcomes.{scenario_limit}
 use Rattle.vme_program.specs.CheckedFiles.{Checked, IsChecked, AreChecked, WereChecked, file_line, file_lines, names_of, some_faulty, some_illegal}
 use Rattle.vme_program.specs.declared.checks.Seen.{Seen}

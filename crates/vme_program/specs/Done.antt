@@ -15,15 +15,15 @@ use Rattle.vme_reading.specs.declared.Status.TheVariants as ends
 use Rattle.vme_reading.specs.declared.EngineFault.TheVariants as fault
 use Rattle.vme_reading.specs.Streams.{Streams, ReadNothing, WroteNothing, streams}
 use Rattle.vme_reading.specs.Outcomes.{Answer, Lent, LentAsking, ReplaysInput}
-use Rattle.vme_engines.specs.Checking.{ChecksInput}
-use Rattle.vme_engines.specs.Explaining.{ExplainsInput}
-use Rattle.vme_engines.specs.Stating.{StatesInput}
-use Rattle.vme_engines.specs.Showing.{ShowsInput}
-use Rattle.vme_engines.specs.Summing.{SumsInput}
-use Rattle.vme_engines.specs.Driving.{Drives}
-use Rattle.vme_engines.specs.Drawing.{Draws}
-use Rattle.vme_engines.specs.Found.{Found, Finds, found_answer}
-use Rattle.vme_engines.specs.Joining.{Joins}
+use Rattle.vme_check.specs.Checking.{ChecksInput}
+use Rattle.vme_following.specs.Explaining.{ExplainsInput}
+use Rattle.vme_following.specs.Stating.{StatesInput}
+use Rattle.vme_show.specs.Showing.{ShowsInput}
+use Rattle.vme_summary.specs.Summing.{SumsInput}
+use Rattle.vme_drive.specs.Driving.{Drives}
+use Rattle.vme_drive.specs.Drawing.{Draws}
+use Rattle.vme_drive.specs.Found.{Found, Finds, found_answer}
+use Rattle.vme_replay.specs.Joining.{Joins}
 use Rattle.vme_reading.specs.Readings.{ReadsInput, ReadsLent}
 use Rattle.vme_reading.specs.declared.EngineFault.{EngineFault}
 use Rattle.vme_cycles.specs.Outcomes.{ReportsInput}

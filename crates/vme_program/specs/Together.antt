@@ -14,8 +14,8 @@ use Rattle.vme_reading.specs.declared.Status.TheVariants.{SomeRefused}
 use Rattle.vme_reading.specs.declared.EngineFault.TheVariants as fault
 use Rattle.vme_reading.specs.Streams.{streams}
 use Rattle.vme_reading.specs.Outcomes.{Answer, scenario_limit, status_with}
-use Rattle.vme_engines.specs.Summing.{IsWaiting}
-use Rattle.vme_engines.specs.Totals.{IsWhole}
+use Rattle.vme_summary.specs.Summing.{IsWaiting}
+use Rattle.vme_summary.specs.Totals.{IsWhole}
 use Rattle.vme_reading.specs.Waiting.{StopsWaiting}
 use Rattle.vme_escapes.specs.Shown.{escaped}
 use Rattle.vme_program.specs.declared.faults.ProgramFault.{ProgramFault}

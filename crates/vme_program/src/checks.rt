@@ -11,7 +11,7 @@ use crate::faults::{ProgramFault, print_fault};
 use crate::files::open;
 use crate::jobs::answer_of_trace;
 use std::io::Write;
-use vme_engines::{Finding, finding_of, write_finding};
+use vme_check::{Finding, finding_of, write_finding};
 use vme_reading::Status;
 use vme_trace::{Fault, put};
 

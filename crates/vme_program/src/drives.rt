@@ -2,7 +2,7 @@
 ghost use Rattle.std.specs.Prelude.{◌≡◌, IfErr};
 ghost use Rattle.std.specs.Io.KnownBytes.{Keeps};
 ghost use Rattle.vme_reading.specs.Outcomes.{Lent};
-ghost use Rattle.vme_engines.specs.Found.{found_answer};
+ghost use Rattle.vme_drive.specs.Found.{found_answer};
 ghost use Rattle.vme_command_line.specs.Limits.{IsWithinChoice};
 ghost use Rattle.vme_program.specs.Done.{DoesDrive, IsDone};
 ghost use Rattle.vme_program.specs.Names.{IsFaultOf};
@@ -14,7 +14,7 @@ use crate::jobs::answer_of;
 use crate::reporters::Reporter;
 use std::io::Write;
 use vme_command_line::{Choice, Job, Work};
-use vme_engines::{drive, drive_drawn, drive_found};
+use vme_drive::{drive, drive_drawn, drive_found};
 use vme_goals::Goal;
 use vme_model::Version;
 use vme_reading::{EngineFault, Status};

@@ -3,7 +3,7 @@ ghost use Rattle.std.specs.Prelude.{◌≡◌, None};
 ghost use Rattle.vme_program.specs.Paced.{IsPaced};
 
 use std::time::Instant;
-use vme_engines::Progress;
+use vme_drive::Progress;
 use vme_order::OrderProgress;
 use vme_shrink::StoryProgress;
 

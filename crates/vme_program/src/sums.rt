@@ -18,10 +18,9 @@ use crate::files::open;
 use crate::jobs::answer_of_trace;
 use arrayvec::ArrayVec;
 use std::io::Write;
-use vme_engines::add_trace;
 use vme_reading::Status;
 use vme_slots::Plan;
-use vme_summary::{Sums, write_sums};
+use vme_summary::{Sums, add_trace, write_sums};
 use vme_text::{push, push_number};
 use vme_trace::{Fault, flush, put};
 

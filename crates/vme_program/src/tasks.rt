@@ -11,12 +11,16 @@ use crate::files::open;
 use crate::jobs::answer_of;
 use crate::reporters::Reporter;
 use std::io::{Read, Write};
+use vme_check::check;
 use vme_command_line::{Job, Task, Work};
 use vme_cycles::cycles;
-use vme_engines::{check, explain, replay, show, state, summary};
+use vme_following::{explain, state};
 use vme_races::{races, walk_of_edge};
 use vme_reading::{EngineFault, LineForm, Status};
+use vme_replay::replay;
+use vme_show::show;
 use vme_shrink::shrink;
+use vme_summary::summary;
 
 /// What a replay writes of each edge, with `--full` and without.
 fn line_form(full: bool) -> LineForm

@@ -21,15 +21,15 @@ use Rattle.vme_reading.specs.declared.EngineFault.TheVariants as fault
 use Rattle.vme_reading.specs.declared.Status.{Status}
 use Rattle.vme_reading.specs.declared.Status.TheVariants.{Done, SomeRefused}
 use Rattle.vme_reading.specs.Begun.{IsUnread}
-use Rattle.vme_engines.specs.Explaining.{IsUnasked}
+use Rattle.vme_following.specs.Explaining.{IsUnasked}
 use Rattle.vme_reading.specs.Outcomes.{Answer, LentAsking, bench}
 use Rattle.vme_reading.specs.Pieces.{Came}
 use Rattle.vme_reading.specs.Readings.{LeavesNow, ReadsLent}
 use Rattle.vme_reading.specs.Steps.{Begins}
 use Rattle.vme_reading.specs.Streams.{Streams, streams, WroteNothing}
 use Rattle.vme_reading.specs.Waiting.{StopsWaiting}
-use Rattle.vme_engines.proofs.FollowedEdges.{next_list}
-use Rattle.vme_engines.proofs.Printed.{explains_end, slice_at}
+use Rattle.vme_following.proofs.FollowedEdges.{next_list}
+use Rattle.vme_following.proofs.PrintedBlocks.{explains_end, slice_at}
 use Rattle.vme_reading.proofs.ReadOn.{came_begins}
 use Rattle.vme_reading.proofs.Waits.{stops_unread, waits_now}
 use Rattle.vme_reading.proofs.WrittenLines.{appends_behind, front_after}

@@ -22,13 +22,14 @@ use Rattle.vme_model.proofs.Bools.{and_left}
 use Rattle.vme_histories.proofs.Judged as judging
 use Rattle.vme_trace.specs.Texts.{whole}
 use Rattle.vme_trace.proofs.ReadBack.{text_read}
-use Rattle.vme_engines.specs.Checking.{IsLegalTrace, first_refusal}
+use Rattle.vme_reading.specs.LegalTraces.{IsLegalTrace}
+use Rattle.vme_reading.specs.Refusals.{first_refusal}
 use Rattle.vme_reading.specs.Outcomes.{bench}
-use Rattle.vme_engines.proofs.CheckPieces.{all_kept}
-use Rattle.vme_engines.proofs.FollowedEdges.{edges_on}
-use Rattle.vme_engines.proofs.LegalTrace.{all_well_formed, legal_trace}
-use Rattle.vme_races.specs.declared.walks.Stop.{Stop}
-use Rattle.vme_races.specs.declared.walks.Stop.TheVariants.{Races}
+use Rattle.vme_reading.proofs.FirstRefusals.{all_kept}
+use Rattle.vme_following.proofs.FollowedEdges.{edges_on}
+use Rattle.vme_reading.proofs.LegalTrace.{all_well_formed, legal_trace}
+use Rattle.vme_swaps.specs.declared.stops.Stop.{Stop}
+use Rattle.vme_swaps.specs.declared.stops.Stop.TheVariants.{Races}
 use Rattle.vme_races.specs.Other.{IsLegalButLast, IsOtherOrder}
 use Rattle.vme_races.specs.Walks.{Stops}
 use Rattle.vme_races.proofs.TakenIn.{kept_legal, ok_by}

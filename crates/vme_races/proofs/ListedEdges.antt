@@ -9,7 +9,7 @@ use Rattle.vme_model.specs.Plan.{Plan}
 use Rattle.vme_model.specs.Signals.{is_well_formed}
 use Rattle.vme_model.specs.Verdict.{State, after, made, verdict}
 use Rattle.vme_reading.specs.Outcomes.{bench}
-use Rattle.vme_engines.proofs.FollowedEdges.{next_list}
+use Rattle.vme_following.proofs.FollowedEdges.{next_list}
 use Rattle.vme_reading.proofs.WrittenLines.{kept_append}
 use Rattle.vme_races.specs.declared.racing.Racing.{Racing}
 use Rattle.vme_races.specs.declared.walks.Walk.{Walk}

@@ -9,11 +9,12 @@ use Rattle.vme_model.specs.Plan.{Plan}
 use Rattle.vme_model.specs.Text.{text}
 use Rattle.vme_model.specs.Verdict.{Judgement, verdict_but_full}
 use Rattle.vme_swaps.specs.Swaps.{IsFree}
-use Rattle.vme_races.specs.declared.walks.Stop.{Stop}
-use Rattle.vme_races.specs.declared.walks.Stop.TheVariants.{Begins, Far, Waits, Races}
-use Rattle.vme_races.specs.Lines.{is_race}
+use Rattle.vme_swaps.specs.declared.stops.Stop.{Stop}
+use Rattle.vme_swaps.specs.declared.stops.Stop.TheVariants.{Begins, Far, Waits, Races}
+use Rattle.vme_swaps.specs.Stops.{is_race}
 use Rattle.vme_races.specs.Other.{HasNoRace, IsOtherOrder}
-use Rattle.vme_races.specs.Walks.{Passes, Stops, most_passed}
+use Rattle.vme_races.specs.Walks.{Passes, Stops}
+use Rattle.vme_swaps.specs.Stops.{most_passed}
 
 module _ (v : Version) (p : Plan) (e : Edge) where
   -- there is a last one of these, which the edge cannot pass

@@ -17,30 +17,30 @@ use Rattle.vme_trace.specs.declared.Fault.{Fault}
 use Rattle.vme_trace.specs.declared.Fault.TheVariants.{Write}
 use Rattle.vme_trace.specs.Writing.{AppendsFront}
 use Rattle.vme_reading.specs.Begun.{IsUnread}
-use Rattle.vme_engines.specs.Explaining.{IsUnasked}
+use Rattle.vme_following.specs.Explaining.{IsUnasked}
 use Rattle.vme_reading.specs.Outcomes.{bench}
 use Rattle.vme_reading.specs.Pieces.{Came}
 use Rattle.vme_reading.specs.Readings.{LeavesNow}
 use Rattle.vme_reading.specs.Steps.{Begins}
 use Rattle.vme_reading.specs.Streams.{Streams, streams, WroteNothing}
 use Rattle.vme_reading.specs.Waiting.{StopsWaiting}
-use Rattle.vme_engines.proofs.FollowedEdges.{edges_on}
-use Rattle.vme_engines.proofs.Printed.{explains_end, slice_at}
+use Rattle.vme_following.proofs.FollowedEdges.{edges_on}
+use Rattle.vme_following.proofs.PrintedBlocks.{explains_end, slice_at}
 use Rattle.vme_reading.proofs.ReadOn.{came_begins}
 use Rattle.vme_reading.proofs.Waits.{stops_unread, waits_now}
 use Rattle.vme_reading.proofs.WrittenLines.{appends_behind, front_after}
 use Rattle.vme_races.specs.declared.other.OtherOrder.{OtherOrder}
 use Rattle.vme_races.specs.declared.other.OtherOrder.TheVariants.{Beyond, NoRace, Written}
 use Rattle.vme_races.specs.declared.racing.Racing.{Racing}
-use Rattle.vme_races.specs.declared.walks.Stop.{Stop}
-use Rattle.vme_races.specs.declared.walks.Stop.TheVariants.{Races}
+use Rattle.vme_swaps.specs.declared.stops.Stop.{Stop}
+use Rattle.vme_swaps.specs.declared.stops.Stop.TheVariants.{Races}
 use Rattle.vme_races.specs.declared.walks.Walk.{Walk}
-use Rattle.vme_races.specs.Lines.{is_race}
+use Rattle.vme_swaps.specs.Stops.{is_race}
 use Rattle.vme_races.specs.Listed.{AreListed, IsListed, SeeksListed, WritesOrder, before_met}
 use Rattle.vme_races.specs.Other.{HasNoRace, IsOtherOrder, OfNth, Orders}
 use Rattle.vme_races.specs.Sought.{IsMet, Seeks}
 use Rattle.vme_races.specs.Walks.{IsWalk, Stops}
-use Rattle.vme_races.proofs.TakenIn.{kept_version}
+use Rattle.vme_following.proofs.FollowedEdges.{kept_version}
 
 -- ---- the edge that is met
 

@@ -11,9 +11,10 @@ use Rattle.vme_bus.specs.declared.states.BusState.{BusState}
 use Rattle.vme_swaps.specs.Swaps.{IsFree}
 use Rattle.vme_races.specs.declared.earlier.Earlier.{Earlier}
 use Rattle.vme_races.specs.declared.recent.Recent.{Recent}
-use Rattle.vme_races.specs.declared.walks.Stop.{Stop}
-use Rattle.vme_races.specs.declared.walks.Stop.TheVariants.{Begins, Far, Waits, Races}
-use Rattle.vme_races.specs.Walks.{IsWalk, Meets, Passes, Stops, most_passed, oldest}
+use Rattle.vme_swaps.specs.declared.stops.Stop.{Stop}
+use Rattle.vme_swaps.specs.declared.stops.Stop.TheVariants.{Begins, Far, Waits, Races}
+use Rattle.vme_races.specs.Walks.{IsWalk, Passes, Stops, oldest}
+use Rattle.vme_swaps.specs.Stops.{Meets, most_passed}
 use Rattle.vme_races.specs.Kinds.{IsKindOf, IsOnPlan, OfKind}
 use Rattle.vme_races.specs.Kept.{AreHeld, AreLast}
 

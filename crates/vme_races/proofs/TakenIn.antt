@@ -18,13 +18,14 @@ use Rattle.vme_trace.specs.declared.Fault.{Fault}
 use Rattle.vme_trace.specs.declared.Fault.TheVariants.{Memory, Write}
 use Rattle.vme_trace.specs.Writing.{AppendsFront}
 use Rattle.vme_reading.specs.Outcomes.{bench}
-use Rattle.vme_engines.proofs.FollowedEdges.{edges_on, kept_plan, next_list, numbered_append}
+use Rattle.vme_following.proofs.FollowedEdges.{edges_on, kept_plan, next_list, numbered_append}
 use Rattle.vme_reading.proofs.WrittenLines.{front_behind, kept_append}
 use Rattle.vme_races.specs.declared.racing.Counts.{Counts}
 use Rattle.vme_races.specs.declared.racing.Racing.{Racing}
 use Rattle.vme_races.specs.declared.walks.Walk.{Walk}
 use Rattle.vme_races.specs.Walks.{AreWalks, IsWalk}
-use Rattle.vme_races.specs.Lines.{count_if, free_in, is_back, is_race, is_wait, race_line, race_lines, races_in, waits_in}
+use Rattle.vme_races.specs.Lines.{count_if, free_in, is_back, race_line, race_lines, races_in, waits_in}
+use Rattle.vme_swaps.specs.Stops.{is_race, is_wait}
 use Rattle.vme_races.specs.Outcomes.{AreLines}
 use Rattle.vme_races.specs.Kinds.{IsKindOf, IsOnPlan}
 use Rattle.vme_races.specs.Kept.{Advances, AreLast, Breaks, IsCounted, IsKept, Stands}
@@ -108,14 +109,6 @@ walks_within p v es walks h =
     let all = numbered_on_within (bench p v) 0 [] es in omega (arith, count, all)
 
 -- ---- where the bus stands
-
-version_by : (t : Bool) (b : State) (e : Edge) → (if t then made b e else b).version ≡ b.version
-version_by true b e = refl
-version_by false b e = refl
-
-pub kept_version : (b : State) (es : List Edge) → (kept b es).version ≡ b.version
-kept_version b [] = refl
-kept_version b (e ∷ es) = kept_version (after b e) es ∙ version_by (is_ok (verdict b e)) b e
 
 pub ok_by : (v : Version) (p : Plan) (h : List Edge) (e : Edge) (rest j : Judgement)
     → verdict_but_full v p h e ≡ j → is_ok (judged v p h e rest) ≡ true → verdict_but_full v p h e ≡ Ok tt

@@ -13,7 +13,7 @@ use Rattle.vme_reading.specs.declared.Status.TheVariants.{Done, SomeRefused}
 use Rattle.vme_reading.specs.declared.EngineFault.TheVariants as fault
 use Rattle.vme_reading.specs.Streams.{Streams, IsInput, Wrote, WroteFront, WroteNothing}
 use Rattle.vme_reading.specs.Outcomes.{Answer, bench}
-use Rattle.vme_engines.specs.Explaining.{Explains, IsUnasked}
+use Rattle.vme_following.specs.Explaining.{Explains, IsUnasked}
 use Rattle.vme_reading.specs.Waiting.{StopsWaiting}
 use Rattle.vme_races.specs.declared.walks.Walk.{Walk}
 use Rattle.vme_races.specs.Walks.{IsWalk}

@@ -14,9 +14,10 @@ use Rattle.vme_races.specs.declared.earlier.Earlier.{Earlier}
 use Rattle.vme_races.specs.declared.recent.Recent.{Recent}
 use Rattle.vme_races.specs.declared.racing.Counts.{Counts}
 use Rattle.vme_races.specs.declared.racing.Racing.{Racing}
-use Rattle.vme_races.specs.declared.walks.Stop.{Stop}
+use Rattle.vme_swaps.specs.declared.stops.Stop.{Stop}
 use Rattle.vme_races.specs.declared.walks.Walk.{Walk}
-use Rattle.vme_races.specs.Walks.{AreWalks, most_passed}
+use Rattle.vme_races.specs.Walks.{AreWalks}
+use Rattle.vme_swaps.specs.Stops.{most_passed}
 use Rattle.vme_races.specs.Kinds.{IsKindOf, IsOnPlan}
 use Rattle.vme_races.specs.Lines.{free_in, race_line, race_lines, races_in, waits_in}
 use Rattle.vme_races.specs.Outcomes.{AreLines, IsText}

@@ -1,7 +1,7 @@
 -- The definitions of the engine `races`. `believe` marks what a theorem rests on, and `words` what
 -- only says how one function serves another.
 
--- believe: how far an accepted edge goes back, and what stops it
+-- believe: how far an accepted edge goes back
 pub mod Walks
 -- believe: the lines that report it
 pub mod Lines
@@ -11,8 +11,6 @@ pub mod Outcomes
 pub mod Asked
 -- believe, for `other_order` alone: the other order of a race, and what that leaves
 pub mod Other
--- words: an edge that is met is well formed
-pub mod Formed
 -- words: the bus before an edge, by what of it is kept
 pub mod Kinds
 -- words: what is kept of the edges so far

@@ -1,28 +1,14 @@
 -- The lines that report the races of a trace. (Profile.)
-use Rattle.std.specs.Prelude.{ℕ, ◌+◌, Bool, true, false, if◌then◌else◌, List, [], ◌∷◌, ◌++◌, length, codes, decimal, nat_lt, Option, Some, None, Ok, Err}
+use Rattle.std.specs.Prelude.{ℕ, ◌+◌, Bool, if◌then◌else◌, List, [], ◌∷◌, ◌++◌, length, codes, decimal, nat_lt, Option, Some, None, Err}
 use Rattle.vme_model.specs.declared.signals.Edge.{Edge}
 use Rattle.vme_model.specs.declared.refusals.Refused.{Refused}
 use Rattle.vme_model.specs.Numbered.{Numbered}
 use Rattle.vme_model.specs.Report.{verdict_text}
-use Rattle.vme_model.specs.Text.{spelling}
-use Rattle.vme_model.specs.Verdict.{Judgement}
-use Rattle.vme_races.specs.declared.walks.Stop.{Stop}
-use Rattle.vme_races.specs.declared.walks.Stop.TheVariants.{Begins, Far, Waits, Races}
+use Rattle.vme_swaps.specs.Stops.{is_race, is_wait}
+use Rattle.vme_swaps.specs.StopLines.{edge_text, races_text, stop_text}
+use Rattle.vme_swaps.specs.declared.stops.Stop.{Stop}
+use Rattle.vme_swaps.specs.declared.stops.Stop.TheVariants.{Races}
 use Rattle.vme_races.specs.declared.walks.Walk.{Walk}
-
--- an edge by its number, and as it is spelled
-abbrev pub edge_text : ℕ → Edge → List ℕ
-edge_text n e = (decimal n ++ codes " ") ++ spelling e
-
--- what comes of the other order: the verdict of the edge that comes second then, if it is refused
-abbrev pub outcome_text : Judgement → List ℕ
-outcome_text (Ok _) = codes "other"
-outcome_text (Err refused) = verdict_text (Err refused)
-
--- the race of two edges, the one that is met and what comes of the other order
-abbrev pub races_text : ℕ → Edge → Judgement → List ℕ
-races_text m a outcome =
-    ((codes " races " ++ edge_text m a) ++ codes " ") ++ outcome_text outcome
 
 -- the line of an accepted edge, the n-th: that of its race, if it has one
 abbrev pub race_line : ℕ → Edge → Stop → List ℕ
@@ -41,18 +27,6 @@ abbrev pub since_text : Option ℕ → List ℕ
 since_text None = []
 since_text (Some n) = codes " free since " ++ decimal n
 
--- the edge for which another waits, and what it gets in front of that one
-abbrev pub waits_text : ℕ → Edge → Refused → List ℕ
-waits_text m a refused =
-    ((codes " waits for " ++ edge_text m a) ++ codes " ") ++ verdict_text (Err refused)
-
--- what stops an edge
-abbrev pub stop_text : Stop → List ℕ
-stop_text Begins = codes " begins"
-stop_text Far = codes " far"
-stop_text (Waits m a refused) = waits_text m a refused
-stop_text (Races m a outcome) = races_text m a outcome
-
 -- the line of an accepted edge, the n-th, and that of one that is refused
 abbrev pub walk_line : ℕ → Edge → Walk → List ℕ
 walk_line n e walk = ((edge_text n e ++ since_text walk.since) ++ stop_text walk.stop) ++ 10 ∷ []
@@ -61,14 +35,6 @@ abbrev pub refused_line : ℕ → Edge → Refused → List ℕ
 refused_line n e refused = ((edge_text n e ++ codes " ") ++ verdict_text (Err refused)) ++ 10 ∷ []
 
 -- ---- the last line
-
-abbrev pub is_race : Stop → Bool
-is_race (Races _ _ _) = true
-is_race _ = false
-
-abbrev pub is_wait : Stop → Bool
-is_wait (Waits _ _ _) = true
-is_wait _ = false
 
 -- it came back over one edge at the least
 abbrev pub is_back : Walk → Bool

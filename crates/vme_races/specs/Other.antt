@@ -11,16 +11,16 @@ use Rattle.vme_trace.specs.declared.Fault.{Fault}
 use Rattle.vme_trace.specs.declared.Fault.TheVariants.{Memory, Write}
 use Rattle.vme_trace.specs.Texts.{whole}
 use Rattle.vme_reading.specs.declared.EngineFault.TheVariants as fault
-use Rattle.vme_engines.specs.Checking.{IsLegalTrace}
+use Rattle.vme_reading.specs.LegalTraces.{IsLegalTrace}
 use Rattle.vme_reading.specs.Streams.{Streams, Wrote, WroteFront, WroteNothing}
 use Rattle.vme_reading.specs.Outcomes.{bench}
-use Rattle.vme_engines.specs.Explaining.{Explains, IsUnasked}
+use Rattle.vme_following.specs.Explaining.{Explains, IsUnasked}
 use Rattle.vme_reading.specs.Waiting.{StopsWaiting}
 use Rattle.vme_races.specs.declared.other.OtherOrder.{OtherOrder}
 use Rattle.vme_races.specs.declared.other.OtherOrder.TheVariants.{Beyond, NoRace, Written}
-use Rattle.vme_races.specs.declared.walks.Stop.TheVariants.{Races}
+use Rattle.vme_swaps.specs.declared.stops.Stop.TheVariants.{Races}
 use Rattle.vme_races.specs.declared.walks.Walk.{Walk}
-use Rattle.vme_races.specs.Lines.{is_race}
+use Rattle.vme_swaps.specs.Stops.{is_race}
 use Rattle.vme_races.specs.Walks.{IsWalk}
 
 -- The other order of the race of an accepted edge e behind these edges of a trace: the accepted

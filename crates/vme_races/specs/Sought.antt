@@ -9,7 +9,7 @@ use Rattle.vme_trace.specs.Writing.{AppendsFront}
 use Rattle.vme_reading.specs.declared.EngineFault.{EngineFault}
 use Rattle.vme_reading.specs.declared.EngineFault.TheVariants as fault
 use Rattle.vme_reading.specs.declared.Status.{Status}
-use Rattle.vme_engines.specs.Explaining.{IsUnasked}
+use Rattle.vme_following.specs.Explaining.{IsUnasked}
 use Rattle.vme_reading.specs.Outcomes.{Answer}
 use Rattle.vme_races.specs.declared.asked.Printed.{Printed}
 use Rattle.vme_races.specs.declared.asked.Printed.TheVariants.{Beyond, Line}

@@ -1,19 +1,15 @@
 -- How far an accepted edge goes back by free swaps with the edge before it, and what stops it. (The
 -- definitions are this project's own.) In each, k numbers the accepted edges before the edge e.
-use Rattle.std.specs.Prelude.{◌≡◌, ◌<◌, ◌≤◌, ◌++◌, ◌∷◌, [], ℕ, List, length, unwrap_or, Option, Some, None, Ok, Err}
+use Rattle.std.specs.Prelude.{◌≡◌, ◌<◌, ◌≤◌, ◌++◌, ◌∷◌, [], ℕ, List, length, unwrap_or, Option, Some, None}
 use Rattle.vme_model.specs.declared.signals.Version.{Version}
 use Rattle.vme_model.specs.declared.signals.Edge.{Edge}
 use Rattle.vme_model.specs.Plan.{Plan}
 use Rattle.vme_model.specs.Numbered.{Numbered, edges_in}
-use Rattle.vme_model.specs.Verdict.{verdict_but_full}
 use Rattle.vme_swaps.specs.Swaps.{IsFree}
-use Rattle.vme_races.specs.declared.walks.Stop.{Stop}
-use Rattle.vme_races.specs.declared.walks.Stop.TheVariants.{Begins, Far, Waits, Races}
+use Rattle.vme_swaps.specs.Stops.{Meets, most_passed}
+use Rattle.vme_swaps.specs.declared.stops.Stop.{Stop}
+use Rattle.vme_swaps.specs.declared.stops.Stop.TheVariants.{Begins, Far}
 use Rattle.vme_races.specs.declared.walks.Walk.{Walk}
-
--- how many edges one passes at most (profile)
-abbrev pub most_passed : ℕ
-most_passed = 200
 
 -- it passes all of these, the newest first, and stands behind the rest then: it is free with each,
 -- where it stands at that time
@@ -26,17 +22,6 @@ Passes v p e ((n, a) ∷ passed) rest =
 abbrev pub oldest : Numbered → Option ℕ
 oldest [] = None
 oldest ((n, a) ∷ k) = Some (unwrap_or (oldest k) n)
-
--- What it meets behind k: the last of k, which it has not passed. It waits for that edge if it is
--- refused in front of it. Otherwise it races with it, and the outcome is what that edge is answered
--- behind it.
-abbrev pub Meets : Version → Plan → Edge → ℕ → Edge → List Edge → Stop → Type 0
-Meets v p e n a h (Waits m b refused) =
-    (m ≡ n) × (b ≡ a) × (verdict_but_full v p h e ≡ Err refused)
-Meets v p e n a h (Races m b outcome) =
-    (m ≡ n) × (b ≡ a) × (verdict_but_full v p h e ≡ Ok tt)
-    × (outcome ≡ verdict_but_full v p (e ∷ h) a)
-Meets v p e n a h _ = ⊥
 
 -- What stops it behind k, if it has passed so many: no edge is before it; or it is far; or the last
 -- of k is not free with it.

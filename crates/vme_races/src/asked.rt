@@ -6,19 +6,20 @@ ghost use Rattle.vme_model.specs.declared.signals.Version.{Version as VersionVal
 ghost use Rattle.vme_model.specs.Locality.{AreWellFormed};
 ghost use Rattle.vme_model.specs.Plan.{Plan as PlanValue};
 ghost use Rattle.vme_model.specs.Signals.{is_well_formed};
-ghost use Rattle.vme_engines.specs.Explaining.{IsUnasked};
+ghost use Rattle.vme_following.specs.Explaining.{IsUnasked};
 ghost use Rattle.vme_reading.specs.Outcomes.{LentAsking};
 ghost use Rattle.vme_reading.specs.Streams.{ReadNothing, WroteNothing, streams};
 ghost use Rattle.vme_races.specs.Asked.{IsLineOf, PrintsWalk, PrintsWalkInput};
 ghost use Rattle.vme_races.specs.Sought.{AreTaken, CutsLine, Seeks, WritesLine, printed_answer, printed_status};
 
-use crate::lines::{Line, refused_line, walk_line};
+use crate::lines::{refused_line, walk_line};
 use crate::racing::Racing;
 use std::alloc::Global;
 use std::io::{Read, Write};
 use vme_bus::Bus;
 use vme_model::Edge;
 use vme_reading::{EngineFault, Judge, Status, read};
+use vme_swaps::Line;
 use vme_trace::{Fault, flush, put};
 
 /// What a command answers that prints one line.

@@ -3,14 +3,13 @@ ghost use Rattle.std.specs.Prelude.{◌≡◌, ◌∷◌, IfNone, IfSome, IsTrue
 ghost use Rattle.vme_model.specs.Signals.{is_well_formed};
 ghost use Rattle.vme_model.specs.Verdict.{IsLegal};
 ghost use Rattle.vme_swaps.specs.Swaps.{IsFree};
-ghost use Rattle.vme_races.specs.Walks.{Meets};
-ghost use Rattle.vme_races.specs.Formed.{is_formed};
+ghost use Rattle.vme_swaps.specs.Stops.{Meets};
+ghost use Rattle.vme_swaps.specs.Stops.{is_formed};
 ghost use Rattle.vme_races.specs.Kinds.{IsOnPlan, OfKind};
 
-use crate::walks::Stop;
 use vme_bus::{BusKind, BusState};
 use vme_model::Edge;
-use vme_swaps::{StepBack, step_back};
+use vme_swaps::{StepBack, Stop, step_back};
 
 /// An accepted edge, with its number in the trace and the bus before it.
 ///

@@ -18,17 +18,6 @@ use vme_model::Edge;
 use vme_reading::{EngineFault, Judge, Status, read};
 use vme_trace::{Fault, flush, put};
 
-/// The status of a trace with so many refused edges.
-fn status_of(refused: u64) -> Status
-    ensures { result ≡ status_with refused }
-{
-    if refused == 0 {
-        Status::Done
-    } else {
-        Status::SomeRefused
-    }
-}
-
 impl Racing {
     /// Writes the last line, and has the writer hand on what it holds back. The status says whether
     /// some edge was refused.
@@ -50,7 +39,7 @@ impl Racing {
         let line = last_line(accepted, counts.races, counts.waits, counts.free);
         put(out, line.as_slice())?;
         flush(out)?;
-        Ok(status_of(refused))
+        Ok(Status::of_refused(refused))
     }
 }
 

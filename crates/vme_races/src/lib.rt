@@ -18,6 +18,5 @@ mod writing;
 
 pub use asked::walk_of_edge;
 pub use judge::races;
-pub use lines::{Line, push_edge, push_stop};
 pub use other::{OtherOrder, other_order};
-pub use walks::{Stop, Walk};
+pub use walks::Walk;

@@ -8,14 +8,13 @@ ghost use Rattle.vme_model.specs.Plan.{Plan as PlanValue};
 ghost use Rattle.vme_model.specs.Signals.{is_well_formed};
 ghost use Rattle.vme_model.specs.Text.{text};
 ghost use Rattle.vme_trace.specs.Writing.{AppendsFront};
-ghost use Rattle.vme_engines.specs.Explaining.{IsUnasked};
+ghost use Rattle.vme_following.specs.Explaining.{IsUnasked};
 ghost use Rattle.vme_reading.specs.Readings.{ReadsInput, ReadsLent};
 ghost use Rattle.vme_reading.specs.Streams.{ReadNothing, WroteNothing, streams};
 ghost use Rattle.vme_races.specs.Listed.{AreListed, SeeksListed, WritesOrder, before_met};
 ghost use Rattle.vme_races.specs.Other.{Orders};
 
 use crate::racing::Racing;
-use crate::walks::Stop;
 use crate::writing::write_trace;
 use std::alloc::Global;
 use std::io::{Read, Write};
@@ -23,6 +22,7 @@ use vme_bus::Bus;
 use vme_model::Edge;
 use vme_reading::{EngineFault, Judge, read};
 use vme_store::Code;
+use vme_swaps::Stop;
 use vme_trace::Fault;
 
 /// What came of the other order of a race.

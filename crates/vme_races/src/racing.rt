@@ -7,7 +7,7 @@ ghost use Rattle.vme_model.specs.Locality.{AreWellFormed};
 ghost use Rattle.vme_model.specs.Plan.{Plan as PlanValue};
 ghost use Rattle.vme_model.specs.Signals.{is_well_formed};
 ghost use Rattle.vme_trace.specs.Writing.{AppendsFront};
-ghost use Rattle.vme_races.specs.Formed.{is_formed};
+ghost use Rattle.vme_swaps.specs.Stops.{is_formed};
 ghost use Rattle.vme_reading.specs.Outcomes.{bench};
 ghost use Rattle.vme_races.specs.declared.walks.Walk.{Walk as WalkValue};
 ghost use Rattle.vme_model.specs.Numbered.{numbered};
@@ -18,12 +18,13 @@ ghost use Rattle.vme_races.specs.Kept.{Advances, AreLast, Breaks, IsCounted, IsK
 use crate::earlier::Earlier;
 use crate::lines::race_line;
 use crate::recent::Recent;
-use crate::walks::{Stop, Walk};
+use crate::walks::Walk;
 use std::alloc::Global;
 use std::io::Write;
 use vme_bus::{Bus, BusState};
 use vme_histories::by_wire;
 use vme_model::{Edge, Refused, Wire};
+use vme_swaps::Stop;
 use vme_trace::{Fault, put};
 
 /// How many edges went back, and how.

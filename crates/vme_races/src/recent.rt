@@ -5,16 +5,17 @@ ghost use Rattle.vme_model.specs.Plan.{Plan};
 ghost use Rattle.vme_model.specs.Numbered.{edges_in};
 ghost use Rattle.vme_model.specs.Verdict.{IsLegal};
 ghost use Rattle.vme_races.specs.Walks.{IsWalk};
-ghost use Rattle.vme_races.specs.Formed.{is_formed};
+ghost use Rattle.vme_swaps.specs.Stops.{is_formed};
 ghost use Rattle.vme_races.specs.Kept.{AreLast, IsReady, OfLast};
 ghost use Rattle.vme_races.specs.Kinds.{IsKindOf, IsOnPlan};
 
 use crate::earlier::Earlier;
-use crate::walks::{Stop, Walk};
+use crate::walks::Walk;
 use std::alloc::Global;
 use std::collections::VecDeque;
 use vme_bus::BusState;
 use vme_model::Edge;
+use vme_swaps::Stop;
 use vme_trace::Fault;
 
 /// How many edges one passes at most.

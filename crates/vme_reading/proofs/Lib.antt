@@ -18,3 +18,7 @@ pub mod FirstReads
 pub mod Waits
 -- two traces that are read side by side: `Input::read_piece` and `read_out`, src/pairs.rt
 pub mod PairReads
+-- the first refusal among edges: `LegalTrace`, and the engines that wait for it
+pub mod FirstRefusals
+-- the trace of a legal list is what a check calls legal: src/laws.rt, `drives::drive`
+pub mod LegalTrace

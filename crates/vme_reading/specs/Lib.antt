@@ -9,6 +9,10 @@ pub mod Outcomes
 pub mod Waiting
 -- believe, for `read_pair` alone: what is read of two traces side by side
 pub mod Pairs
+-- believe, for `check`, `explain` and others: the first edge of a trace that is refused
+pub mod Refusals
+-- believe, for what writes a trace and for `check`: a whole trace whose edges are a legal list
+pub mod LegalTraces
 -- words, but for `IsNoPlan`, which `plan_of` answers by: what the reads and the pieces of a trace
 -- do to an engine
 pub mod Steps

@@ -4,17 +4,22 @@
 //! It is generic over the reader, the writer and the judge. `specs/Outcomes.antt` says what an
 //! engine over it leaves behind and answers.
 #![tactic(auto)]
+ghost use Rattle.std.specs.Prelude.{◌≡◌};
+ghost use Rattle.vme_reading.specs.Outcomes.{status_with};
 
+pub mod laws;
 mod pairs;
 mod pieces;
 mod plans;
 mod readings;
+mod texts;
 mod traces;
 
 pub use pairs::{Pair, PairFault, read_pair};
 pub use pieces::{JUDGED_AT_ONCE, buffer_of};
 pub use plans::plan_of;
 pub use readings::{Judge, read, read_on};
+pub use texts::{hand_on, make_room};
 use thiserror::Error;
 use vme_scenario::ScenarioError;
 use vme_trace::Fault;
@@ -38,6 +43,19 @@ pub enum Status {
     SomeRefused,
     /// As many edges were made as were asked for.
     Limit,
+}
+
+impl Status {
+    /// The status of a command that judges all edges of a trace, if so many were refused.
+    pub fn of_refused(refused: u64) -> Status
+        ensures { result ≡ status_with refused }
+    {
+        if refused == 0 {
+            Status::Done
+        } else {
+            Status::SomeRefused
+        }
+    }
 }
 
 /// What a replay writes of each edge.

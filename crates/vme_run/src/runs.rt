@@ -13,7 +13,7 @@ use std::sync::Wait;
 use std::thread::Threads;
 use vme_arena::{Region, Rest};
 use vme_backplane::{Backplane, Trace, TraceError};
-use vme_engines::status_of;
+use vme_drive::status_of;
 use vme_lock::Bounds;
 use vme_model::Version;
 use vme_reading::{EngineFault, Status, plan_of};

@@ -14,11 +14,11 @@ use Rattle.vme_model.specs.Verdict.{State, after, check, judged, kept, made, ver
 use Rattle.vme_histories.proofs.Judged.{refused, passed}
 use Rattle.vme_bus.specs.declared.states.BusState.{BusState}
 use Rattle.vme_bus.specs.States.{IsStateOf, OfHistory}
-use Rattle.vme_engines.specs.Checking.{first_refusal, or_refusal}
+use Rattle.vme_reading.specs.Refusals.{first_refusal, or_refusal}
 use Rattle.vme_reading.specs.Outcomes.{bench}
-use Rattle.vme_engines.proofs.CheckPieces.{refusal_behind, refusal_stays}
-use Rattle.vme_engines.proofs.FollowedEdges.{edges_on, kept_plan, numbered_append}
-use Rattle.vme_races.proofs.TakenIn.{kept_version}
+use Rattle.vme_reading.proofs.FirstRefusals.{refusal_behind, refusal_stays}
+use Rattle.vme_following.proofs.FollowedEdges.{edges_on, kept_plan, numbered_append}
+use Rattle.vme_following.proofs.FollowedEdges.{kept_version}
 use Rattle.vme_same.specs.declared.sides.Side.{Side}
 use Rattle.vme_same.specs.Kept.{IsSide}
 

@@ -12,9 +12,9 @@ use Rattle.vme_bus.specs.States.{IsStateOf, OfHistory}
 use Rattle.vme_swaps.specs.Swaps.{AreOneButForSwaps}
 use Rattle.vme_swaps.proofs.Behind.{same_by_swaps}
 use Rattle.vme_trace.specs.declared.Fault.{Fault}
-use Rattle.vme_races.specs.declared.walks.Stop.{Stop}
-use Rattle.vme_races.specs.declared.walks.Stop.TheVariants.{Begins, Far, Waits, Races}
-use Rattle.vme_races.specs.Walks.{Meets, most_passed}
+use Rattle.vme_swaps.specs.declared.stops.Stop.{Stop}
+use Rattle.vme_swaps.specs.declared.stops.Stop.TheVariants.{Begins, Far, Waits, Races}
+use Rattle.vme_swaps.specs.Stops.{Meets, most_passed}
 use Rattle.vme_same.specs.declared.comparisons.Comparison.{Comparison}
 use Rattle.vme_same.specs.declared.comparisons.Comparison.TheVariants.{Same, OtherVersion, Differs, Leaves}
 use Rattle.vme_same.specs.declared.comparisons.Why.{Why}

@@ -13,8 +13,8 @@ use Rattle.vme_model.specs.Verdict.{IsLegal, verdict_but_full}
 use Rattle.vme_bus.specs.declared.states.BusState.{BusState}
 use Rattle.vme_bus.specs.States.{IsStateOf, OfHistory}
 use Rattle.vme_swaps.specs.Swaps.{IsFree}
-use Rattle.vme_races.specs.declared.walks.Stop.{Stop}
-use Rattle.vme_races.specs.Walks.{Meets}
+use Rattle.vme_swaps.specs.declared.stops.Stop.{Stop}
+use Rattle.vme_swaps.specs.Stops.{Meets}
 use Rattle.vme_same.specs.declared.edges.Left.{Left}
 use Rattle.vme_same.specs.Comparing.{GoesBack, HasNoneOf, IsFirstOf, IsMissing, IsPlace}
 use Rattle.vme_same.specs.Kept.{IsAt, numbers}

@@ -14,10 +14,10 @@ use Rattle.vme_model.specs.Verdict.{IsLegal, Judgement, State, after, judged, ke
 use Rattle.vme_histories.proofs.Judged.{refused}
 use Rattle.vme_swaps.specs.Swaps.{AreOneButForSwaps}
 use Rattle.vme_swaps.proofs.Behind.{AreSame, same_by_swaps}
-use Rattle.vme_engines.specs.Checking.{first_refusal}
+use Rattle.vme_reading.specs.Refusals.{first_refusal}
 use Rattle.vme_reading.specs.Outcomes.{bench}
-use Rattle.vme_engines.proofs.CheckPieces.{all_kept}
-use Rattle.vme_engines.proofs.FollowedEdges.{edges_on}
+use Rattle.vme_reading.proofs.FirstRefusals.{all_kept}
+use Rattle.vme_following.proofs.FollowedEdges.{edges_on}
 use Rattle.vme_same.specs.declared.comparisons.Comparison.TheVariants.{Same}
 use Rattle.vme_same.specs.Comparing.{Compares, IsComparison, IsFound}
 use Rattle.vme_same.proofs.Brought.{brought_at, swaps_none, swaps_on}

@@ -6,7 +6,7 @@ use Rattle.vme_model.specs.declared.signals.Version.{Version}
 use Rattle.vme_model.specs.Plan.{Plan}
 use Rattle.vme_model.specs.Numbered.{Numbered, edges_in, numbered}
 use Rattle.vme_model.specs.Verdict.{IsLegal}
-use Rattle.vme_engines.specs.Checking.{first_refusal}
+use Rattle.vme_reading.specs.Refusals.{first_refusal}
 use Rattle.vme_reading.specs.Outcomes.{bench}
 use Rattle.vme_same.specs.declared.comparisons.Comparison.{Comparison}
 use Rattle.vme_same.specs.declared.comparisons.Comparison.TheVariants.{Refuses}

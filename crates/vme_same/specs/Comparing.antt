@@ -10,11 +10,11 @@ use Rattle.vme_model.specs.declared.signals.Edge.{Edge}
 use Rattle.vme_model.specs.Plan.{Plan}
 use Rattle.vme_model.specs.Numbered.{Numbered, edges_in, numbered}
 use Rattle.vme_swaps.specs.Swaps.{IsFree}
-use Rattle.vme_engines.specs.Checking.{first_refusal}
+use Rattle.vme_reading.specs.Refusals.{first_refusal}
 use Rattle.vme_reading.specs.Outcomes.{bench}
-use Rattle.vme_races.specs.declared.walks.Stop.{Stop}
-use Rattle.vme_races.specs.declared.walks.Stop.TheVariants.{Far}
-use Rattle.vme_races.specs.Walks.{Meets, most_passed}
+use Rattle.vme_swaps.specs.declared.stops.Stop.{Stop}
+use Rattle.vme_swaps.specs.declared.stops.Stop.TheVariants.{Far}
+use Rattle.vme_swaps.specs.Stops.{Meets, most_passed}
 use Rattle.vme_same.specs.declared.comparisons.Why.{Why}
 use Rattle.vme_same.specs.declared.comparisons.Why.TheVariants.{Missing, Stops}
 use Rattle.vme_same.specs.declared.comparisons.Comparison.{Comparison}

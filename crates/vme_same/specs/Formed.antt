@@ -2,7 +2,7 @@
 use Rattle.std.specs.Prelude.{◌&&◌, ℕ, Bool, true, Option, Some, None}
 use Rattle.vme_model.specs.declared.signals.Edge.{Edge}
 use Rattle.vme_model.specs.Signals.{is_well_formed}
-use Rattle.vme_races.specs.Formed.{is_formed}
+use Rattle.vme_swaps.specs.Stops.{is_formed}
 use Rattle.vme_same.specs.declared.comparisons.Why.{Why}
 use Rattle.vme_same.specs.declared.comparisons.Why.TheVariants.{Stops}
 use Rattle.vme_same.specs.declared.comparisons.Comparison.{Comparison}

@@ -8,9 +8,9 @@ use Rattle.vme_model.specs.Verdict.{IsLegal}
 use Rattle.vme_model.specs.Report.{trace_limit}
 use Rattle.vme_bus.specs.States.{IsStateOf}
 use Rattle.vme_swaps.specs.Swaps.{AreOneButForSwaps}
-use Rattle.vme_engines.specs.Checking.{first_refusal}
+use Rattle.vme_reading.specs.Refusals.{first_refusal}
 use Rattle.vme_reading.specs.Outcomes.{bench}
-use Rattle.vme_races.specs.Walks.{most_passed}
+use Rattle.vme_swaps.specs.Stops.{most_passed}
 use Rattle.vme_same.specs.declared.comparisons.Comparison.{Comparison}
 use Rattle.vme_same.specs.declared.matching.Matching.{Matching}
 use Rattle.vme_same.specs.declared.edges.Next.{Next}

@@ -2,7 +2,7 @@
 use Rattle.std.specs.Prelude.{ℕ, List, [], ◌∷◌, ◌++◌, codes, decimal, Option, Some, None, Err}
 use Rattle.vme_model.specs.declared.signals.Edge.{Edge}
 use Rattle.vme_model.specs.Report.{verdict_text}
-use Rattle.vme_races.specs.Lines.{edge_text, stop_text}
+use Rattle.vme_swaps.specs.StopLines.{edge_text, stop_text}
 use Rattle.vme_same.specs.declared.comparisons.Why.{Why}
 use Rattle.vme_same.specs.declared.comparisons.Why.TheVariants.{Missing, Stops}
 use Rattle.vme_same.specs.declared.comparisons.Comparison.{Comparison}

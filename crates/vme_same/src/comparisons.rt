@@ -1,7 +1,7 @@
 //! What is found of two traces.
 
 use vme_model::{Edge, Refused};
-use vme_races::Stop;
+use vme_swaps::Stop;
 
 /// Why an edge of the second trace keeps it from being the same as the first.
 #[derive(Clone, Copy, PartialEq, Eq, Debug)]

@@ -8,7 +8,7 @@ use crate::comparisons::{Comparison, Why};
 use arrayvec::ArrayVec;
 use vme_explain::texts::push_verdict;
 use vme_model::Edge;
-use vme_races::{Line, push_edge, push_stop};
+use vme_swaps::{Line, push_edge, push_stop};
 use vme_text::{push, push_number};
 
 /// Appends why an edge keeps two traces from being the same: at most 82 bytes.

@@ -6,7 +6,7 @@ ghost use Rattle.vme_model.specs.Numbered.{Numbered, edges_in};
 ghost use Rattle.vme_model.specs.Plan.{Plan as PlanValue};
 ghost use Rattle.vme_model.specs.Signals.{is_well_formed};
 ghost use Rattle.vme_model.specs.Verdict.{IsLegal};
-ghost use Rattle.vme_races.specs.Walks.{most_passed};
+ghost use Rattle.vme_swaps.specs.Stops.{most_passed};
 ghost use Rattle.vme_same.specs.Comparing.{IsFirstOf, IsMissing, IsOutcome};
 ghost use Rattle.vme_same.specs.Formed.{is_formed_found, is_formed_progress, is_formed_sought};
 ghost use Rattle.vme_same.specs.Kept.{Goes, IsAmple, IsAt, IsGoing, IsIdle, IsOpen, Leads, OfGoing, edges_of};
@@ -18,7 +18,7 @@ use crate::rest::{Rest, is_same};
 use std::alloc::Global;
 use std::collections::VecDeque;
 use vme_model::{Edge, Version};
-use vme_races::Stop;
+use vme_swaps::Stop;
 use vme_slots::Plan;
 use vme_trace::Fault;
 

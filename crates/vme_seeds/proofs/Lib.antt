@@ -8,7 +8,7 @@ mod Words
 mod Drawn
 -- `nothing_is_left_out`, and what is chosen is open
 mod AllOpen
--- a walk, edge by edge, and that its version and plan stay the same: `draws::take` of vme_engines
+-- a walk, edge by edge, and that its version and plan stay the same: `draws::take` of vme_drive
 pub mod Walked
 -- `every_number_can_be_drawn`
 mod Shares

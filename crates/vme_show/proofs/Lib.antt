@@ -4,3 +4,7 @@ pub mod Rows
 pub mod Whole
 -- whom a row shows: src/laws.rt
 pub mod Letters
+-- what is shown of a trace, edge by edge and piece by piece: src/shows.rt
+pub mod ShownPieces
+-- what is shown of the whole trace: src/shows.rt
+pub mod ShownTraces

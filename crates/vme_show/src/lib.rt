@@ -4,7 +4,9 @@
 mod columns;
 pub mod laws;
 mod lines;
+mod shows;
 mod windows;
 mod wires;
 
+pub use shows::show;
 pub use windows::{COLUMNS, Window};

@@ -12,12 +12,12 @@ use Rattle.vme_model.specs.Locality.{AreWellFormed}
 use Rattle.vme_model.specs.Plan.{Plan}
 use Rattle.vme_model.specs.Signals.{is_well_formed}
 use Rattle.vme_model.specs.Verdict.{State, Judgement, after, kept, made, verdict}
-use Rattle.vme_engines.specs.Checking.{first_refusal, or_refusal}
-use Rattle.vme_engines.specs.Explaining.{IsUnasked}
-use Rattle.vme_engines.specs.Followed.{IsNext}
+use Rattle.vme_reading.specs.Refusals.{first_refusal, or_refusal}
+use Rattle.vme_following.specs.Explaining.{IsUnasked}
+use Rattle.vme_following.specs.Followed.{IsNext}
 use Rattle.vme_reading.specs.Outcomes.{bench}
-use Rattle.vme_engines.proofs.CheckPieces.{refusal_behind}
-use Rattle.vme_engines.proofs.FollowedEdges.{next_list}
+use Rattle.vme_reading.proofs.FirstRefusals.{refusal_behind}
+use Rattle.vme_following.proofs.FollowedEdges.{next_list}
 use Rattle.vme_reading.proofs.FormedEdges.{formed_both}
 use Rattle.vme_stories.proofs.Lists.{kept_append}
 use Rattle.vme_shrink.specs.Sought.{IsFront, IsMet, is_asked}

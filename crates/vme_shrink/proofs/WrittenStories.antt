@@ -17,23 +17,24 @@ use Rattle.vme_model.specs.Verdict.{State, kept, verdict}
 use Rattle.vme_trace.specs.declared.Fault.{Fault}
 use Rattle.vme_trace.specs.declared.Fault.TheVariants.{Memory, Write}
 use Rattle.vme_trace.specs.Writing.{AppendsFront}
-use Rattle.vme_engines.specs.declared.checks.Finding.TheVariants.{Legal}
+use Rattle.vme_check.specs.declared.checks.Finding.TheVariants.{Legal}
 use Rattle.vme_reading.specs.declared.EngineFault.{EngineFault}
 use Rattle.vme_reading.specs.declared.EngineFault.TheVariants as fault
 use Rattle.vme_reading.specs.declared.Status.{Status}
 use Rattle.vme_reading.specs.declared.Status.TheVariants.{Done}
 use Rattle.vme_reading.specs.Begun.{IsUnread}
-use Rattle.vme_engines.specs.Checking.{finding_line, first_refusal, refusal_of}
-use Rattle.vme_engines.specs.Explaining.{IsAsked, IsUnasked, edge_status}
-use Rattle.vme_engines.specs.Followed.{IsNext}
+use Rattle.vme_check.specs.Checking.{finding_line}
+use Rattle.vme_reading.specs.Refusals.{first_refusal, refusal_of}
+use Rattle.vme_following.specs.Explaining.{IsAsked, IsUnasked, edge_status}
+use Rattle.vme_following.specs.Followed.{IsNext}
 use Rattle.vme_reading.specs.Outcomes.{Answer, LentAsking, bench}
 use Rattle.vme_reading.specs.Pieces.{Came}
 use Rattle.vme_reading.specs.Readings.{LeavesNow, ReadsLent}
 use Rattle.vme_reading.specs.Steps.{Begins}
 use Rattle.vme_reading.specs.Streams.{Streams, streams, WroteNothing}
 use Rattle.vme_reading.specs.Waiting.{StopsWaiting}
-use Rattle.vme_engines.proofs.LegalTrace.{all_well_formed}
-use Rattle.vme_engines.proofs.Printed.{explains_end, slice_at, refused_by, first_behind}
+use Rattle.vme_reading.proofs.LegalTrace.{all_well_formed}
+use Rattle.vme_following.proofs.PrintedBlocks.{explains_end, slice_at, refused_by, first_behind}
 use Rattle.vme_reading.proofs.ReadOn.{came_begins}
 use Rattle.vme_reading.proofs.Waits.{stops_unread, waits_now}
 use Rattle.vme_reading.proofs.WrittenLines.{appends_behind, front_after}

@@ -15,7 +15,7 @@ use Rattle.vme_reading.specs.declared.Status.{Status}
 use Rattle.vme_reading.specs.declared.EngineFault.TheVariants as fault
 use Rattle.vme_reading.specs.Streams.{Streams, IsInput, Wrote, WroteFront, WroteNothing}
 use Rattle.vme_reading.specs.Outcomes.{Answer, bench}
-use Rattle.vme_engines.specs.Explaining.{Explains, IsAllLegal, IsAsked, IsUnasked, edge_status}
+use Rattle.vme_following.specs.Explaining.{Explains, IsAllLegal, IsAsked, IsUnasked, edge_status}
 use Rattle.vme_reading.specs.Waiting.{StopsWaiting}
 
 -- The edge that is asked for is written behind a story of it and of what was kept of the edges

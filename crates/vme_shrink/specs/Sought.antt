@@ -8,8 +8,8 @@ use Rattle.vme_trace.specs.declared.Fault.{Fault}
 use Rattle.vme_reading.specs.declared.EngineFault.{EngineFault}
 use Rattle.vme_reading.specs.declared.EngineFault.TheVariants as fault
 use Rattle.vme_reading.specs.Outcomes.{Answer, bench}
-use Rattle.vme_engines.specs.Explaining.{IsUnasked}
-use Rattle.vme_engines.specs.Followed.{IsNext}
+use Rattle.vme_following.specs.Explaining.{IsUnasked}
+use Rattle.vme_following.specs.Followed.{IsNext}
 use Rattle.vme_shrink.specs.declared.shrinks.Written.{Written}
 use Rattle.vme_shrink.specs.declared.shrinks.Written.TheVariants.{Text, Beyond}
 

@@ -2,7 +2,7 @@
 ghost use Rattle.std.specs.Prelude.{◌≡◌, Some, length};
 ghost use Rattle.std.specs.Io.KnownBytes.{Keeps};
 ghost use Rattle.vme_model.specs.Verdict.{State};
-ghost use Rattle.vme_engines.specs.Explaining.{IsUnasked};
+ghost use Rattle.vme_following.specs.Explaining.{IsUnasked};
 ghost use Rattle.vme_reading.specs.Outcomes.{LentAsking};
 ghost use Rattle.vme_reading.specs.Streams.{streams, ReadNothing, WroteNothing};
 ghost use Rattle.vme_shrink.specs.Shrinking.{Shrinks, ShrinksInput};
@@ -12,7 +12,7 @@ use crate::fronts::{seek, write_story};
 use std::alloc::Global;
 use std::io::{Read, Write};
 use vme_bus::Bus;
-use vme_engines::{Finding, write_finding};
+use vme_check::{Finding, write_finding};
 use vme_model::Edge;
 use vme_reading::{EngineFault, Judge, Status, read};
 use vme_stories::{Front, StoryProgress};

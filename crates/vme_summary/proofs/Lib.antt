@@ -18,3 +18,5 @@ pub mod Shares
 pub mod Standing
 -- the sums of several traces, before the first and after one more
 pub mod AddedTraces
+-- what the edges of a trace come to, piece by piece
+pub mod TraceSums

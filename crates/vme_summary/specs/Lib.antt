@@ -11,3 +11,9 @@ pub mod Sums
 pub mod Tallied
 -- believe, for sums over several traces: which sums tallies lead to
 pub mod Summed
+-- believe, for `summary` alone: what that leaves
+pub mod Summing
+-- believe, for `add_trace`: what one more trace does to the sums of those before it
+pub mod Totals
+-- words: what the edges of a trace do to `summary`
+pub mod TraceSums

@@ -10,12 +10,16 @@ mod met;
 mod refusals;
 mod rules;
 mod summaries;
+mod summing;
 mod sums;
 mod tallies;
 mod topics;
+mod totals;
 
 pub use boards::BoardTally;
 pub use summaries::{write_summary, write_sums};
 pub use sums::Sums;
 pub use tallies::Tally;
+pub use summing::summary;
 pub use topics::Topic;
+pub use totals::add_trace;

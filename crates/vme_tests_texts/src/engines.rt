@@ -1,7 +1,7 @@
 //! What no clause says of the engines: the texts of their faults, and that each seed is reported
 //! before it is tried, and its edges while it is.
 use std::process::Abort;
-use vme_engines::{Progress, drive_found};
+use vme_drive::{Progress, drive_found};
 use vme_goals::{Aim, Event, Goal};
 use vme_model::Version;
 use vme_reading::EngineFault;

@@ -1,5 +1,5 @@
 use Rattle.std.proofs.Common.{codes}
-use Rattle.vme_engines.specs.Checking.{finding_line}
+use Rattle.vme_check.specs.Checking.{finding_line}
 use Rattle.vme_reading.proofs.WrittenLines.{on_err}
 use Rattle.vme_escapes.specs.Shown.{escaped}
 use Rattle.vme_program.proofs.EscapedNames.{line_done, line_first, line_second, line_third}

@@ -1,7 +1,7 @@
 use Rattle.std.proofs.Common.{subst, sym}
 use Rattle.std.specs.Io.KnownBytes.{Keeps}
 use Rattle.vme_reading.specs.Outcomes.{Lent}
-use Rattle.vme_engines.specs.Found.{found_answer}
+use Rattle.vme_drive.specs.Found.{found_answer}
 use Rattle.vme_command_line.specs.declared.Choice.{Choice}
 use Rattle.vme_program.specs.Done.{DoesDrive}
 use Rattle.vme_program.proofs.Reaching.{sought_done}

@@ -2,7 +2,7 @@ use Rattle.std.proofs.Common.{ap, sym, reverse}
 use Rattle.std.proofs.lemmas.Option.{get_or_from_slice_get, slice_get_within}
 use Rattle.vme_trace.specs.Writing.{edge_line}
 use Rattle.vme_trace.proofs.WrittenLines.{on_err, line_more, line_front}
-use Rattle.vme_engines.proofs.DriveRounds.{well_formed_at}
+use Rattle.vme_drive.proofs.DriveRounds.{well_formed_at}
 use Rattle.vme_run.proofs.histories.write_lines.Goals as goal
 
 pub write_line-requires : goal.write_line-requires

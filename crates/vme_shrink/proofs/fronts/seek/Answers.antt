@@ -1,5 +1,5 @@
 use Rattle.std.proofs.Common.{◌∙◌, ◌+◌, ◌++◌, Some, true, subst, sym, arith}
-use Rattle.vme_engines.specs.Explaining.{IsUnasked}
+use Rattle.vme_following.specs.Explaining.{IsUnasked}
 use Rattle.vme_shrink.specs.Sought.{IsFront, is_asked}
 use Rattle.vme_shrink.proofs.SoughtEdges.{asked_still, formed_at, front_next, goes_on, met_here, number_at, stays_at, unasked_next, whole_taken}
 use Rattle.vme_shrink.proofs.fronts.seek.Goals as goal

@@ -1,6 +1,6 @@
 use Rattle.std.proofs.Common.{◌∙◌, ◌++◌, Some, arith, subst, take}
 use Rattle.std.proofs.lemmas.List.{take_all}
-use Rattle.vme_engines.specs.Explaining.{IsUnasked}
+use Rattle.vme_following.specs.Explaining.{IsUnasked}
 use Rattle.vme_races.specs.Listed.{AreListed}
 use Rattle.vme_races.proofs.AskedLines.{met_here, unasked_next}
 use Rattle.vme_races.proofs.ListedEdges.{listed_next}

@@ -2,7 +2,7 @@ use Rattle.std.proofs.Common.{◌≡◌, ◌+◌, ◌++◌, List, Some, take}
 use Rattle.vme_model.specs.declared.signals.Edge.{Edge}
 use Rattle.vme_model.specs.declared.signals.Version.{Version}
 use Rattle.vme_model.specs.Plan.{Plan}
-use Rattle.vme_engines.specs.Explaining.{IsUnasked}
+use Rattle.vme_following.specs.Explaining.{IsUnasked}
 use Rattle.vme_races.specs.Listed.{AreListed}
 use Rattle.vme_races.proofs.other.Reordering.seek.Given as goal
 

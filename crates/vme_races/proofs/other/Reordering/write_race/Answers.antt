@@ -6,7 +6,7 @@ use Rattle.vme_model.specs.Text.{text}
 use Rattle.vme_model.specs.Verdict.{verdict}
 use Rattle.vme_reading.specs.Outcomes.{bench}
 use Rattle.vme_races.specs.Listed.{before_met}
-use Rattle.vme_races.specs.Lines.{is_race}
+use Rattle.vme_swaps.specs.Stops.{is_race}
 use Rattle.vme_races.proofs.OtherOrders.{order_cut, ordered, raceless_none, refused_none}
 use Rattle.vme_races.proofs.TakenIn.{legal_there}
 use Rattle.vme_races.proofs.other.Reordering.write_race.Goals as goal

@@ -21,5 +21,5 @@ returns-clause-ends g c = λ p v es first stands.
     let made : c.from-accepted.result ≡ length c.args.self.now.bus.history = search rules in (
       ends p v es first (g.W.Write.contents c.args.out.now) (g.W.Write.contents c.flush.new.out) c.args.self.now stands c.last_line-line.result.items (search rules)
           (g.W.Write.contents c.put.new.out) (rw (c.as_slice.ensures.value) at c.in_ok-put.ensures.ok) c.in_ok-flush.ensures.kept,
-      c.status_of.ensures ∙ ap (λ n. status_with n) (c.saturating_sub-refused.ensures ∙ ap (λ n. c.args.self.now.judged - n) made ∙ refused_is p v es stands.0 c.args.self.now stands.1),
+      c.of_refused.ensures ∙ ap (λ n. status_with n) (c.saturating_sub-refused.ensures ∙ ap (λ n. c.args.self.now.judged - n) made ∙ refused_is p v es stands.0 c.args.self.now stands.1),
     )

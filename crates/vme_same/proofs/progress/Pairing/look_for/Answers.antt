@@ -1,5 +1,5 @@
 use Rattle.std.proofs.Common.{◌≡◌, ◌+◌, ◌<◌, arith, subst, sym}
-use Rattle.vme_races.specs.Walks.{most_passed}
+use Rattle.vme_swaps.specs.Stops.{most_passed}
 use Rattle.vme_same.specs.Kept.{edges_of, numbers}
 use Rattle.vme_same.proofs.Leading.{far_sure}
 use Rattle.vme_same.proofs.Lists.{numbers_count}

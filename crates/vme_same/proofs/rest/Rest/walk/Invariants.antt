@@ -5,7 +5,7 @@ use Rattle.vme_model.specs.Numbered.{Numbered, edges_in}
 use Rattle.vme_model.specs.Plan.{Plan}
 use Rattle.vme_model.specs.Verdict.{IsLegal}
 use Rattle.vme_bus.specs.States.{IsStateOf}
-use Rattle.vme_races.specs.Formed.{is_formed}
+use Rattle.vme_swaps.specs.Stops.{is_formed}
 use Rattle.vme_same.specs.Kept.{numbers}
 use Rattle.vme_same.proofs.Lists.{HasGone}
 use Rattle.vme_same.proofs.rest.Rest.walk.Given as goal

@@ -1,0 +1,2 @@
+-- a check, piece by piece: src/checks.rt
+pub mod CheckPieces

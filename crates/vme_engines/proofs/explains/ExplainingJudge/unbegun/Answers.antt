@@ -1,5 +1,0 @@
-use Rattle.vme_engines.proofs.Printed.{explains_unbegun}
-use Rattle.vme_engines.proofs.explains.ExplainingJudge.unbegun.Goals as goal
-
-pub returns : goal.returns
-returns c = explains_unbegun c.args._task.now

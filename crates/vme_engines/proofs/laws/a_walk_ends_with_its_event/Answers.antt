@@ -1,5 +1,0 @@
-use Rattle.vme_engines.proofs.BroughtEvents.{ends_with_its_event}
-use Rattle.vme_engines.proofs.laws.a_walk_ends_with_its_event.Goals as goal
-
-pub returns : goal.returns
-returns c = ends_with_its_event

@@ -1,5 +1,0 @@
-use Rattle.vme_engines.proofs.LegalTrace.{legal_trace}
-use Rattle.vme_engines.proofs.laws.the_trace_of_a_legal_list_is_legal.Goals as goal
-
-pub returns : goal.returns
-returns c = legal_trace

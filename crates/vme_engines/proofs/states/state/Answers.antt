@@ -1,9 +1,0 @@
-use Rattle.vme_reading.specs.Streams.{streams, ReadNothing, WroteNothing}
-use Rattle.vme_engines.specs.Stating.{StatesInput}
-use Rattle.vme_engines.proofs.Printed.{lent_known}
-use Rattle.vme_engines.proofs.states.state.Goals as goal
-
-pub returns : goal.returns
-returns g c =
-    let s = streams (g.R.Read.remaining c.args.trace.now) (g.R.Read.remaining c.read.new.trace) (g.W.Write.contents c.args.out.now) (g.W.Write.contents c.read.new.out) in
-    rw c.status_of.ensures (lent_known c.args.scenario.now (ReadNothing s × WroteNothing s) (StatesInput c.args.after s) c.read.result c.read.ensures)

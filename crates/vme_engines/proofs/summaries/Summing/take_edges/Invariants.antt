@@ -1,9 +1,0 @@
-use Rattle.std.proofs.Common.{◌≡◌, ◌+◌, ◌++◌, take}
-use Rattle.vme_engines.specs.Summed.{IsSumOf, OfSum}
-use Rattle.vme_engines.proofs.summaries.Summing.take_edges.Given as goal
-
-abbrev pub invariant-loop-edge : goal.invariant-loop-edge
-invariant-loop-edge l = record {
-  judged : l.self.following.judged ≡ l.fn.self.following.judged + l.edge-index;
-  sum : OfSum l.fn.self (λ p v es. IsSumOf p v (es ++ take l.edge-index l.edges) l.self);
-}
