@@ -7,7 +7,7 @@ use Rattle.vme_order_search.specs.declared.layers.Layer.{Layer}
 use Rattle.vme_order_search.specs.declared.layers.Match.{Match}
 use Rattle.vme_order_search.specs.declared.layers.Match.TheVariants as match
 use Rattle.vme_order_search.specs.declared.taken.Taken.{Taken}
-use Rattle.vme_order_search.specs.Places.{bucket_of}
+use Rattle.vme_order_search.specs.Places.{bucket_count, bucket_of, number_limit}
 
 -- a beginning stands there
 abbrev pub StandsAt : Layer → ℕ → Beginning → Type 0
@@ -19,9 +19,9 @@ StandsBelow l bucket at = (b : Beginning) × StandsAt l (at - 1) b × (bucket_of
 
 -- From the last of a bucket one comes to each of it, from the greater places to the lesser.
 pub record IsTable (l : Layer) : Type 0 where
-  pub room : length l.last.items ≡ 65536
+  pub room : length l.last.items ≡ bucket_count
   pub both : length l.before.items ≡ length l.kept.items
-  pub few : length l.kept.items < 4294967296
+  pub few : length l.kept.items < number_limit
   pub last : (i : ℕ) (b : Beginning) → StandsAt l i b
       → i < slice_index l.last.items (bucket_of b.taken)
   pub ends : (i : ℕ) (b : Beginning) → StandsAt l i b

@@ -9,6 +9,14 @@ use Rattle.vme_moments.specs.Before.{is_timely}
 use Rattle.vme_moments.specs.Orders.{IsFree, has}
 use Rattle.vme_order_search.specs.declared.taken.Taken.{Taken}
 
+-- places, and steps of a trail, are numbers of 32 bits
+abbrev pub number_limit : ℕ
+number_limit = 4294967296
+
+-- how many buckets of sets there are
+abbrev pub bucket_count : ℕ
+bucket_count = 65536
+
 -- the place is in the set
 abbrev pub holds : Taken → ℕ → Bool
 holds t i = nat_lt i t.least || (nat_lt t.least i && (bit_at t.behind (i - t.least - 1) == 1))

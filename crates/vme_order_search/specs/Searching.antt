@@ -20,7 +20,7 @@ use Rattle.vme_order_search.specs.declared.taken.Taken.{Taken}
 use Rattle.vme_order_search.specs.declared.trails.Trail.{Trail}
 use Rattle.vme_order_search.specs.Layers.{IsTable}
 use Rattle.vme_order_search.specs.Places.{AreTaken, IsNarrow}
-use Rattle.vme_order_search.specs.TooMany.{AreApart, HasTooMany}
+use Rattle.vme_order_search.specs.TooMany.{AreApart, HasTooMany, most_sets}
 use Rattle.vme_order_search.specs.Trails.{Ends, IsTrail}
 
 -- what is searched in
@@ -136,7 +136,7 @@ IsBusOf t b = (places : List ℕ) × LeadsTo t places b
 
 -- something was left out, by a search of full width only if there are too many
 abbrev pub LeavesOut : Task → Search → Type 0
-LeavesOut t s = s.width ≡ 65536 → HasTooMany t.version t.plan t.slacks t.seen
+LeavesOut t s = s.width ≡ most_sets → HasTooMany t.version t.plan t.slacks t.seen
 
 -- greater beginnings were left out only so
 abbrev pub IsCutRightly : Task → Search → Type 0

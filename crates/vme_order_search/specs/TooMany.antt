@@ -15,11 +15,15 @@ abbrev pub AreApart : List (List ℕ) → Type 0
 AreApart [] = Unit {0}
 AreApart (q ∷ qs) = All (λ r. ¬ (AreSamePlaces q r)) qs × AreApart qs
 
--- the legal beginnings of one length have more than 65,536 sets of places
+-- the most sets of places of one length that a search keeps
+abbrev pub most_sets : ℕ
+most_sets = 65536
+
+-- the legal beginnings of one length have more sets of places than that
 pub record HasManySets (version : Version) (p : Plan) (x : Slacks) (ms : List Seen) : Type 0 where
   pub size : ℕ
   pub beginnings : List (List ℕ)
-  pub many : 65536 < length beginnings
+  pub many : most_sets < length beginnings
   pub legal : All (IsLegalBeginning version p x ms) beginnings
   pub sizes : All (λ q. length q ≡ size) beginnings
   pub apart : AreApart beginnings

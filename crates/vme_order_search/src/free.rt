@@ -1,7 +1,7 @@
 //! Which places can come next.
 ghost use Rattle.std.specs.Prelude.{◌≡◌, ◌<◌, ◌≤◌, ℕ, List, true, All, IfErr, IfOk, IfSome, length};
 ghost use Rattle.vme_moments.specs.Orders.{AreInOrder, AreNext, IsFree};
-ghost use Rattle.vme_order_search.specs.Places.{AreTaken, IsNarrow, IsNextFree, is_far};
+ghost use Rattle.vme_order_search.specs.Places.{AreTaken, IsNarrow, IsNextFree, is_far, number_limit};
 
 use crate::OrderFault;
 use crate::taken::Taken;
@@ -71,7 +71,7 @@ pub(crate) fn next_places(
     taken: &Taken,
 ) -> Result<Vec<u32>, OrderFault>
     requires narrow { IsNarrow taken.now }
-    requires few { length seen.now < 4294967296 }
+    requires few { length seen.now < number_limit }
     requires ascending { AreInOrder seen.now }
     ensures within { IfOk result (λ next. All (λ p. p < length seen.now) next.items) }
     ensures next { IfOk result (λ next. (places : List ℕ) → AreTaken places taken.now

@@ -2,7 +2,7 @@
 ghost use Rattle.std.specs.Prelude.{◌≡◌, ◌<◌, ◌≤◌, ◌+◌, ◌++◌, ◌∷◌, [], ℕ, IfErr, IfOk, OnOk, false, length, true};
 ghost use Rattle.std.specs.List.{slice_get};
 ghost use Rattle.vme_order_search.specs.Layers.{Finds, IsTable, StandsAt, StandsBelow};
-ghost use Rattle.vme_order_search.specs.Places.{bucket_of};
+ghost use Rattle.vme_order_search.specs.Places.{bucket_count, bucket_of};
 ghost use Rattle.vme_order_search.specs.declared.layers.Beginning.{Beginning as BeginningValue};
 
 use crate::OrderFault;
@@ -98,7 +98,7 @@ impl Layer {
     #[inline(always)]
     fn last_of(&self, bucket: usize) -> u32
         requires table { IsTable self.now }
-        requires within { bucket < 65536 }
+        requires within { bucket < bucket_count }
         ensures few { result ≤ length self.now.kept.items }
         ensures all { (i : ℕ) (b : BeginningValue) → StandsAt self.now i b
             → bucket_of b.taken ≡ bucket → i < result }

@@ -4,9 +4,9 @@
 ghost use Rattle.std.specs.Prelude.{◌≡◌, ◌≢◌, ◌⊎◌, ◌<◌, ◌≤◌, ◌+◌, [], ℕ, All, Err, IfErr, IfOk, Ok, OnOk, false, length, reverse, true};
 ghost use Rattle.vme_model.specs.Report.{trace_limit};
 ghost use Rattle.vme_moments.specs.Orders.{AreInOrder, AreNext, IsLongest};
-ghost use Rattle.vme_order_search.specs.Places.{IsNarrow};
+ghost use Rattle.vme_order_search.specs.Places.{IsNarrow, number_limit};
 ghost use Rattle.vme_order_search.specs.Searching.{GoesOn, HasEnded, HasGoneOn, HasLayer, HasLonger, HasTried, IsAnswer, IsAt, IsFit, IsGrown, IsNextOf, IsSameSearch, LeadsTo, Task};
-ghost use Rattle.vme_order_search.specs.TooMany.{HasTooMany};
+ghost use Rattle.vme_order_search.specs.TooMany.{HasTooMany, most_sets};
 ghost use Rattle.vme_order_search.specs.declared.search.Search.{Search as SearchValue};
 
 use crate::free::{next_free, next_places};
@@ -101,7 +101,7 @@ impl Search {
     ) -> Result<(), OrderFault>
         requires fit { IsFit self.old }
         requires narrow { IsNarrow taken }
-        requires few { place < 4294967296 }
+        requires few { place < number_limit }
         ensures fit { OnOk result (IsFit self.new) }
         ensures same { OnOk result (IsSameSearch self.old self.new) }
         ensures grown { OnOk result
@@ -123,7 +123,7 @@ impl Search {
     ) -> Result<Room, OrderFault>
         requires fit { IsFit self.old }
         requires narrow { IsNarrow taken }
-        requires few { place < 4294967296 }
+        requires few { place < number_limit }
         ensures fit { OnOk result (IsFit self.new) }
         ensures same { OnOk result (IsSameSearch self.old self.new) }
         ensures grown { result ≡ Ok Room.Enough → (v : SearchValue)
@@ -148,7 +148,7 @@ impl Search {
         requires narrow { IsNarrow front.now.taken }
         requires missing { front.now.taken.least ≤ place }
         requires near { place < front.now.taken.least + 128 }
-        requires few { place < 4294967296 }
+        requires few { place < number_limit }
         ensures fit { OnOk result (IsFit self.new) }
         ensures same { OnOk result (IsSameSearch self.old self.new) }
         ensures kept { (t : Task) (n m : ℕ) → IsAt t n m place front.now self.old
@@ -178,7 +178,7 @@ impl Search {
     ) -> Result<Room, OrderFault>
         requires fit { IsFit self.old }
         requires narrow { IsNarrow front.now.taken }
-        requires few { length seen.now < 4294967296 }
+        requires few { length seen.now < number_limit }
         requires missing { front.now.taken.least ≤ place }
         requires within { place < length seen.now }
         ensures fit { OnOk result (IsFit self.new) }
@@ -202,7 +202,7 @@ impl Search {
     /// looks on, since there are too many orders only if there is one more.
     #[inline(always)]
     fn is_done(&self) -> bool
-        ensures { result ≡ true → self.now.width ≢ 65536 }
+        ensures { result ≡ true → self.now.width ≢ most_sets }
     {
         self.width < MOST_SETS && self.sets >= self.width
     }
@@ -216,7 +216,7 @@ impl Search {
     ) -> Result<Room, OrderFault>
         requires fit { IsFit self.old }
         requires narrow { IsNarrow front.now.taken }
-        requires few { length seen.now < 4294967296 }
+        requires few { length seen.now < number_limit }
         requires ascending { AreInOrder seen.now }
         ensures fit { OnOk result (IsFit self.new) }
         ensures same { OnOk result (IsSameSearch self.old self.new) }
@@ -240,7 +240,7 @@ impl Search {
     /// Finds the beginnings with one place more.
     fn lengthen(&mut self, seen: &[Seen], slacks: &Slacks) -> Result<(), OrderFault>
         requires fit { IsFit self.old }
-        requires few { length seen.now < 4294967296 }
+        requires few { length seen.now < number_limit }
         requires ascending { AreInOrder seen.now }
         ensures fit { OnOk result (IsFit self.new) }
         ensures same { OnOk result (self.new.layer ≡ self.old.layer) }
@@ -282,7 +282,7 @@ impl Search {
     /// steps are not its own.
     fn drop_others(&mut self, alloc: Global, places: usize) -> Result<(), OrderFault>
         requires fit { IsFit self.old }
-        requires few { places < 4294967296 }
+        requires few { places < number_limit }
         ensures fit { OnOk result (IsFit self.new) }
         ensures some { OnOk result (0 < length self.old.layer.kept.items
             → 0 < length self.new.layer.kept.items) }
@@ -312,7 +312,7 @@ impl Search {
     ) -> Result<usize, OrderFault>
         requires fit { IsFit self.old }
         requires some { 0 < length self.old.layer.kept.items }
-        requires few { length seen.now < 4294967296 }
+        requires few { length seen.now < number_limit }
         requires ascending { AreInOrder seen.now }
         ensures fit { OnOk result (IsFit self.new) }
         ensures some { OnOk result (0 < length self.new.layer.kept.items) }
@@ -337,7 +337,7 @@ impl Search {
     fn found(&self, alloc: Global, seen: &[Seen], slacks: &Slacks) -> Result<Found, OrderFault>
         requires fit { IsFit self.now }
         requires some { 0 < length self.now.layer.kept.items }
-        requires few { length seen.now < 4294967296 }
+        requires few { length seen.now < number_limit }
         requires ascending { AreInOrder seen.now }
         ensures found { (t : Task) (n : ℕ) → t.seen ≡ seen.now → t.slacks ≡ slacks.now
             → HasEnded t n self.now → (self.now.is_cut ≡ false) ⊎ (n ≡ length seen.now)
@@ -361,12 +361,12 @@ fn longest_within<P: OrderProgress>(
     width: usize,
     progress: &mut P,
 ) -> Result<Found, OrderFault>
-    requires few { length seen.now < 4294967296 }
+    requires few { length seen.now < number_limit }
     requires ascending { AreInOrder seen.now }
     ensures found { (t : Task) → t.seen ≡ seen.now → t.slacks ≡ slacks.now → LeadsTo t [] start
         → IfOk result (IsAnswer t) }
     ensures many { (t : Task) → t.seen ≡ seen.now → t.slacks ≡ slacks.now → LeadsTo t [] start
-        → width ≡ 65536 → result ≡ Err OrderFault.TooManyOrders
+        → width ≡ most_sets → result ≡ Err OrderFault.TooManyOrders
         → HasTooMany t.version t.plan t.slacks t.seen }
 {
     let mut search = Search::new(alloc, start, width)?;

@@ -1,6 +1,6 @@
 //! The places of a beginning.
 ghost use Rattle.std.specs.Prelude.{◌≡◌, ◌==◌, ◌||◌, ◌+◌, ◌<◌, ◌≤◌, ◌^◌, ℕ, false};
-ghost use Rattle.vme_order_search.specs.Places.{IsNarrow, bucket_of, holds};
+ghost use Rattle.vme_order_search.specs.Places.{IsNarrow, bucket_count, bucket_of, holds};
 
 /// How many buckets there are for sets of places.
 pub(crate) const BUCKETS: usize = 65_536;
@@ -75,7 +75,7 @@ impl Taken {
     #[inline(always)]
     pub(crate) fn bucket(&self) -> usize
         ensures bucket { result ≡ bucket_of self.now }
-        ensures within { result < 65536 }
+        ensures within { result < bucket_count }
     {
         let low = (self.behind % 0x1_0000_0000_0000_0000) as u64;
         let high = (self.behind >> 64) as u64;

@@ -1,6 +1,7 @@
 //! How the beginnings that are kept came about.
 ghost use Rattle.std.specs.Prelude.{◌≡◌, ◌<◌, ◌∷◌, [], ℕ, List, IfErr, IfOk, OnOk, reverse};
 ghost use Rattle.vme_order_search.specs.Trails.{Ends, IsTrail};
+ghost use Rattle.vme_order_search.specs.Places.{number_limit};
 
 use crate::OrderFault;
 use std::alloc::Global;
@@ -35,7 +36,7 @@ impl Trail {
     /// Goes on with a place from where a beginning ends.
     pub(crate) fn push(&mut self, front: u32, place: usize) -> Result<u32, OrderFault>
         requires trail { IsTrail self.old }
-        requires within { place < 4294967296 }
+        requires within { place < number_limit }
         ensures trail { OnOk result (IsTrail self.new) }
         ensures kept { OnOk result ((step : ℕ) (path : List ℕ) → Ends self.old step path
             → Ends self.new step path) }
