@@ -144,7 +144,8 @@ AsksForTask name rows (Explain edge) =
     (name ≡ codes "explain") × (spelled (codes "edge") rows ≡ edge)
 AsksForTask name rows (Shrink edge progress) =
     (name ≡ codes "shrink") × (spelled (codes "edge") rows ≡ edge) × IsProgress rows progress
-AsksForTask name rows (State after) = (name ≡ codes "state") × (spelled (codes "after") rows ≡ after)
+AsksForTask name rows (State after) =
+    (name ≡ codes "state") × (spelled (codes "after") rows ≡ after)
 AsksForTask name rows (Show from to color) = (name ≡ codes "show")
     × (from ≡ first_of_window rows) × (to ≡ last_of_window rows)
     × IsFlag (codes "color") rows color

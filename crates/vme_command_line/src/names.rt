@@ -58,8 +58,8 @@ fn work_on_trace<'a>(name: &str, operands: &ArgMatches<'a>) -> Result<Work<'a>, 
     })
 }
 
-/// The work for the name of a command that compares orders of edges, finds one, or says who may have
-/// made changes, or of one that takes one trace alone.
+/// The work for the name of a command that compares orders of edges, finds one, or says who may
+/// have made changes, or of one that takes one trace alone.
 fn comparing_work<'a>(name: &str, operands: &ArgMatches<'a>) -> Result<Work<'a>, Unfit<'a>>
     ensures within { IfOk result IsWithinWork }
     ensures asked { IfOk result (AsksForWork name.now (rows_of (found_of operands.now))) }

@@ -182,7 +182,8 @@ FailsWork (OtherOrder trace edge) old new (NoRace asked) =
 FailsWork (Order moments slacks places progress) old new (Ordering f) =
     OnMoments (form_of places) slacks old new (Err f)
 FailsWork (Probe capture) old new (Capture f) = OnCapture old new (Err (probe.Capture f))
-FailsWork (Drive edges version choice) old new (NeverComes why) = GivesUp (goal_of choice) old new why
+FailsWork (Drive edges version choice) old new (NeverComes why) =
+    GivesUp (goal_of choice) old new why
 FailsWork work old new f = ⊥
 
 -- a job ends with a fault that it has alone
