@@ -3,7 +3,7 @@
 from .backplane import CHAINS
 from .captures import ACCESS, INTERRUPTS, LINES, REQUESTS, Capture, Change, name_of_cycle
 from .obstacles import obstacles
-from .samples import Sample
+from .samples import Sample, next_places
 from .standings import HIGH, Probed, behind
 from .traces import Cycle, name_of
 
@@ -47,7 +47,7 @@ def by(drivers):
 def impossible(probed, sample):
     """The lines of the changes that nobody may have made behind those of the sample that are placed."""
     found = []
-    for place in sample.next_places(sample.placed()):
+    for place in next_places(sample.changes, sample.placed()):
         change = sample.changes[place]
         lines, is_ours = obstacles(probed, sample.record(), change)
         found.append(is_ours)

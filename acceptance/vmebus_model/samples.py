@@ -24,21 +24,13 @@ class Sample:
         """Adds the records of the sets that have one place more, and returns these sets."""
         leading = {}
         for places in sets:
-            for place in self.next_places(places):
+            for place in next_places(self.changes, places):
                 able, record = behind(self.probed, self.records[places], self.changes[place])
                 if able:
                     self.makers[places, place] = able
                     leading.setdefault(places | {place}, []).append(record)
         self.records.update((places, self.probed.with_hidden(reduce(union, them))) for places, them in leading.items())
         return list(leading)
-
-    def next_places(self, places):
-        """The first change of each line or pin that is not in a set, by its place."""
-        waiting = {}
-        for place, change in enumerate(self.changes):
-            if place not in places:
-                waiting.setdefault(change.of, place)
-        return sorted(waiting.values())
 
     def placed(self):
         """The most changes that can have come first; of several such sets the one that is least as a list of places."""
@@ -60,6 +52,15 @@ class Sample:
                 reaching.add(places)
                 drivers[place] = drivers.get(place, set()) | self.makers[places, place]
         return drivers
+
+
+def next_places(changes, places):
+    """The first change of each line or pin that is not in a set, by its place."""
+    waiting = {}
+    for place, change in enumerate(changes):
+        if place not in places:
+            waiting.setdefault(change.of, place)
+    return sorted(waiting.values())
 
 
 def union(one, other):
