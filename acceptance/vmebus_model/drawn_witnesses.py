@@ -3,9 +3,9 @@
 A capture is drawn, and its changes are taken one by one by the record and by the set of all ways in which the bus can stand
 behind a legal list that shows the changes so far.  At each place every change that the lines allow is looked at: who may have
 made it behind such a list has to be named; a change that is told to be impossible has to be so; and of each condition that is
-told no such list may meet it and those before it.  In half of the captures the changes are taken by samples, whose orders all
-count: who made a change in a list that shows the whole sample has to be named, and a sample that is told to be impossible has
-to be so.
+told no such list may meet it and those before it.  In more than half of the captures the changes are taken by samples, whose
+orders all count: who made a change in a list that shows the whole sample has to be named, and a sample that is told to be
+impossible has to be so.
 """
 
 import random
