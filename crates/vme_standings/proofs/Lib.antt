@@ -38,3 +38,5 @@ pub mod SeenEdges
 pub mod FrontLaws
 -- the laws of how far the acknowledge has come, behind an edge that the probes see
 pub mod FrontSeen
+-- what covers a part of a bus covers it in a union: `union_laws`
+pub mod UnionLaws

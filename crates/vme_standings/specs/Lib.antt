@@ -45,3 +45,5 @@ pub mod Cuts
 pub mod Beginnings
 -- believe: which phases an edge leads to that no probe sees, and how they are gathered
 pub mod Unseen
+-- words: what is known of a bus of which one of two is known
+pub mod Unions

@@ -2,6 +2,7 @@
 ghost use Rattle.std.specs.Prelude.{◌≡◌, ◌==◌, ◌&&◌, ◌||◌, ◌<◌, ℕ, false, MatchOption};
 ghost use Rattle.vme_bus.specs.Sets.{has};
 ghost use Rattle.vme_standings.specs.Fronts.{place_of, input_place, is_reached, IsWaiting, MovesFronts, may_fall_at, EndsAt, FallsAt, Reaches};
+ghost use Rattle.vme_standings.specs.Unions.{UnitesFronts};
 
 use crate::grants::just;
 use crate::interrupters::Interrupters;
@@ -166,6 +167,16 @@ impl Fronts {
         Fronts {
             waiting: false,
             ends,
+        }
+    }
+
+    /// How far the acknowledge may have come if it may by one of the two.
+    pub(crate) fn union(&self, other: &Fronts) -> Fronts
+        ensures { UnitesFronts self.now other.now result }
+    {
+        Fronts {
+            waiting: self.waiting || other.waiting,
+            ends: self.ends.or(other.ends),
         }
     }
 

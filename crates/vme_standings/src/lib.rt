@@ -30,6 +30,8 @@ mod running;
 mod segments;
 mod sets;
 mod standings;
+pub mod union_laws;
+mod unions;
 mod unseen;
 
 pub use cuts::{PhaseFact, is_low_in, is_segment, is_so};

@@ -6,6 +6,7 @@ ghost use Rattle.std.specs.Prelude.{◌≡◌, ◌&&◌, ◌||◌, ◌==◌, ◌
 ghost use Rattle.vme_bus.specs.Sets.{has};
 ghost use Rattle.vme_standings.specs.Slots.{EachSlot};
 ghost use Rattle.vme_standings.specs.RequestSets.{may_be, AllHigh, Unknown, MovesUnseen, Falls, Rises, MayRise, Accessed, AnyAccessed, Acknowledged, pulls, Passes, CannotPass};
+ghost use Rattle.vme_standings.specs.Unions.{UnitesRequests};
 
 use crate::sets::{both, except, several};
 use vme_bus::SlotSet;
@@ -83,6 +84,17 @@ impl Requests {
         ensures { (s : ℕ) → has result s ≡ pulls self.now boards s }
     {
         boards.and(self.pending.or(self.served))
+    }
+
+    /// How the requests may stand if they may by one of the two.
+    pub(crate) fn union(&self, other: &Requests) -> Requests
+        ensures { UnitesRequests self.now other.now result }
+    {
+        Requests {
+            high: self.high.or(other.high),
+            pending: self.pending.or(other.pending),
+            served: self.served.or(other.served),
+        }
     }
 
     /// The line of these boards falls: one of them requests.

@@ -1,0 +1,46 @@
+//! What holds of a bus of which one of two is known: what covers a part of it in one of the two
+//! covers it in their union.
+//!
+//! These functions do nothing. Each is a theorem, which its contract states. `a` and `b` are what
+//! is known by the one and by the other, and `new` by their union.
+ghost use Rattle.std.specs.Prelude.{◌≡◌, ◌⊎◌, ℕ, true, List};
+ghost use Rattle.vme_bus.specs.declared.sets.SlotSet.{SlotSet};
+ghost use Rattle.vme_model.specs.Plan.{Plan};
+ghost use Rattle.vme_model.specs.declared.signals.Edge.{Edge};
+ghost use Rattle.vme_model.specs.declared.signals.Wire.{Wire};
+ghost use Rattle.vme_standings.specs.Cycles.{CoversDrivers};
+ghost use Rattle.vme_standings.specs.FrontCovers.{CoversFronts};
+ghost use Rattle.vme_standings.specs.Phases.{has_phase, is_in_table};
+ghost use Rattle.vme_standings.specs.Requests.{CoversRequests};
+ghost use Rattle.vme_standings.specs.RequestSets.{may_be};
+ghost use Rattle.vme_standings.specs.Unions.{UnitesFronts, UnitesPhases, UnitesRequests, UnitesSlots};
+ghost use Rattle.vme_standings.specs.declared.fronts.Fronts.{Fronts};
+ghost use Rattle.vme_standings.specs.declared.phases.GrantPhase.{GrantPhase};
+ghost use Rattle.vme_standings.specs.declared.phases.GrantPhases.{GrantPhases};
+ghost use Rattle.vme_standings.specs.declared.requests.Requests.{Requests};
+
+/// What covers the interrupt requests covers them in the union.
+pub fn union_covers_requests()
+    ensures { (p : Plan) (h : List Edge) (a b new : Requests) → UnitesRequests a b new
+        → CoversRequests p h (may_be a) ⊎ CoversRequests p h (may_be b)
+        → CoversRequests p h (may_be new) }
+{}
+
+/// What covers who drives a wire covers them in the union.
+pub fn union_covers_drivers()
+    ensures { (h : List Edge) (w : Wire) (a b new : SlotSet) → UnitesSlots a b new
+        → CoversDrivers h w a ⊎ CoversDrivers h w b → CoversDrivers h w new }
+{}
+
+/// What covers how far an acknowledge has come covers it in the union.
+pub fn union_covers_fronts()
+    ensures { (p : Plan) (h : List Edge) (a b new : Fronts) → UnitesFronts a b new
+        → CoversFronts p h a ⊎ CoversFronts p h b → CoversFronts p h new }
+{}
+
+/// A phase of the grants and BBSY* that one of the two has is in the union.
+pub fn union_has_phases()
+    ensures { (a b new : GrantPhases) (q : GrantPhase) → UnitesPhases a b new
+        → is_in_table q ≡ true → (has_phase a q ≡ true) ⊎ (has_phase b q ≡ true)
+        → has_phase new q ≡ true }
+{}
