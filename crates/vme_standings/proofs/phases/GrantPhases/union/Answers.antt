@@ -5,7 +5,7 @@ use Rattle.vme_bus.specs.Sets.{has}
 use Rattle.vme_standings.specs.declared.phases.GrantPhase.TheVariants.{Held}
 use Rattle.vme_standings.specs.Phases.{has_phase}
 use Rattle.vme_standings.proofs.Rows.{free_kept, held_step}
-use Rattle.vme_standings.proofs.unions.GrantPhases.union.Goals as goal
+use Rattle.vme_standings.proofs.phases.GrantPhases.union.Goals as goal
 
 pub loop-board-preserved : goal.loop-board-preserved
 loop-board-preserved c =

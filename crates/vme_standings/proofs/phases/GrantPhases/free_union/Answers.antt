@@ -5,7 +5,7 @@ use Rattle.vme_bus.specs.Sets.{has}
 use Rattle.vme_standings.specs.declared.phases.GrantPhase.TheVariants.{Idle, Granting, Expired}
 use Rattle.vme_standings.specs.Phases.{has_phase}
 use Rattle.vme_standings.proofs.LevelRows.{PassesLevel, each_level}
-use Rattle.vme_standings.proofs.unions.GrantPhases.free_union.Goals as goal
+use Rattle.vme_standings.proofs.phases.GrantPhases.free_union.Goals as goal
 
 pub loop-level-preserved : goal.loop-level-preserved
 loop-level-preserved c =

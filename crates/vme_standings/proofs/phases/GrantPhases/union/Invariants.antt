@@ -2,7 +2,7 @@ use Rattle.std.specs.Prelude.{◌||◌}
 use Rattle.vme_standings.specs.declared.phases.GrantPhase.TheVariants.{Held}
 use Rattle.vme_standings.specs.Phases.{HasFree, has_phase}
 use Rattle.vme_standings.proofs.Rows.{AreMade}
-use Rattle.vme_standings.proofs.unions.GrantPhases.union.Given as goal
+use Rattle.vme_standings.proofs.phases.GrantPhases.union.Given as goal
 
 abbrev pub invariant-loop-board : goal.invariant-loop-board
 invariant-loop-board l = record {
