@@ -176,8 +176,9 @@ AsksFor name rows (Same scenario trace other) = (name ≡ codes "same")
 AsksFor name rows (Order scenario moments slacks places progress) = (name ≡ codes "order")
     × IsFile (codes "SCENARIO") rows scenario.now × IsFile (codes "MOMENTS") rows moments.now
     × AreTheSlacks rows slacks × IsFlag (codes "where") rows places × IsProgress rows progress
-AsksFor name rows (Probe scenario capture) = (name ≡ codes "probe")
+AsksFor name rows (Probe scenario capture skew) = (name ≡ codes "probe")
     × IsFile (codes "SCENARIO") rows scenario.now × IsFile (codes "CAPTURE") rows capture.now
+    × (spelled (codes "skew") rows ≡ skew)
 AsksFor name rows (Drive scenario edges version) = (name ≡ codes "drive")
     × IsFile (codes "SCENARIO") rows scenario.now × AreOptions rows edges version
     × (spelled (codes "seed") rows ≡ None) × (first_of (codes "seeds") rows ≡ None)

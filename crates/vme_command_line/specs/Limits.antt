@@ -40,6 +40,6 @@ IsWithin (Walk scenario trace edge) = 1 ≤ edge
 IsWithin (OtherOrder scenario trace edge) = 1 ≤ edge
 IsWithin (Same scenario trace other) = Unit {0}
 IsWithin (Order scenario moments slacks places progress) = Unit {0}
-IsWithin (Probe scenario capture) = Unit {0}
+IsWithin (Probe scenario capture skew) = Unit {0}
 IsWithin (Run scenario edges turns version) =
     (1 ≤ edges) × (edges ≤ trace_limit) × (1 ≤ turns) × (turns ≤ most_turns)

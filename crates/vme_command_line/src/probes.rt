@@ -5,7 +5,7 @@ ghost use Rattle.vme_command_line.specs.Asked.{AsksFor, IsFile};
 ghost use Rattle.vme_command_line.specs.Limits.{IsWithin};
 ghost use Rattle.vme_command_line.specs.Unfits.{IsUnfit};
 
-use crate::{Job, Unfit, file_of};
+use crate::{Job, Unfit, file_of, whole_of};
 use clap::ArgMatches;
 
 /// A judgement of what an analyser saw of the scenario's bus.
@@ -21,5 +21,6 @@ pub(crate) fn probe_of<'a>(
     Ok(Job::Probe {
         scenario,
         capture: file_of(operands, "CAPTURE")?,
+        skew: whole_of(operands, "skew", 0)?,
     })
 }

@@ -104,14 +104,15 @@ order_formed scenario moments text slacks places progress form from to old new a
     (subst (λ (f : Form). LentText text (ReadNothing (streams from to old new) × WroteNothing (streams from to old new)) (OrdersInput f slacks (streams from to old new)) answer) is does)
 
 -- an engine on a scenario and a capture
-pub probe_done : (scenario capture : Bor (List ℕ)) (text : List ℕ) (from to old new : Known) (answer : ProbeAnswer)
-    → LentCapture text (ReadNothing (streams from to old new) × WroteNothing (streams from to old new)) (ProbesInput (streams from to old new)) answer
-    → IsDone (Probe scenario capture) old new (probe_answer_named scenario answer)
-probe_done scenario capture text from to old new (Ok status) does = (text, from, to, does)
-probe_done scenario capture text from to old new (Err (probe.Engine fault.CannotRead)) does = absurd does.3.2
-probe_done scenario capture text from to old new (Err (probe.Engine fault.TooLong)) does = does.1.1
-probe_done scenario capture text from to old new (Err (probe.Engine (fault.Scenario e))) does = inl (text, from, to, does)
-probe_done scenario capture text from to old new (Err (probe.Engine (fault.Trace f))) does = inl (text, from, to, does)
-probe_done scenario capture text from to old new (Err (probe.Engine (fault.Beyond n))) does = inl (text, from, to, does)
-probe_done scenario capture text from to old new (Err (probe.Engine fault.NoMemory)) does = inl (text, from, to, does)
-probe_done scenario capture text from to old new (Err (probe.Capture f)) does = (text, from, to, does)
+pub probe_done : (scenario capture : Bor (List ℕ)) (skew : Option ℕ) (text : List ℕ) (from to old new : Known) (answer : ProbeAnswer)
+    → LentCapture text (ReadNothing (streams from to old new) × WroteNothing (streams from to old new)) (ProbesInput skew (streams from to old new)) answer
+    → IsDone (Probe scenario capture skew) old new (probe_answer_named scenario answer)
+probe_done scenario capture skew text from to old new (Ok status) does = (text, from, to, does)
+probe_done scenario capture skew text from to old new (Err (probe.Engine fault.CannotRead)) does = absurd does.3.2
+probe_done scenario capture skew text from to old new (Err (probe.Engine fault.TooLong)) does = does.1.1
+probe_done scenario capture skew text from to old new (Err (probe.Engine (fault.Scenario e))) does = inl (text, from, to, does)
+probe_done scenario capture skew text from to old new (Err (probe.Engine (fault.Trace f))) does = inl (text, from, to, does)
+probe_done scenario capture skew text from to old new (Err (probe.Engine (fault.Beyond n))) does = inl (text, from, to, does)
+probe_done scenario capture skew text from to old new (Err (probe.Engine fault.NoMemory)) does = inl (text, from, to, does)
+probe_done scenario capture skew text from to old new (Err (probe.Capture f)) does = (text, from, to, does)
+probe_done scenario capture skew text from to old new (Err probe.TooManyOrders) does = (text, from, to, does)

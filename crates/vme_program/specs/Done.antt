@@ -52,7 +52,7 @@ use Rattle.vme_program.specs.Reaching.{GivesUp, Unhindered}
 use Rattle.vme_program.specs.Statuses.{exit_code}
 use Rattle.vme_program.specs.Together.{LacksFiles, SumsFiles}
 use Rattle.vme_program.specs.declared.faults.ProgramFault.{ProgramFault}
-use Rattle.vme_program.specs.declared.faults.ProgramFault.TheVariants.{CannotRead, TooLong, Engine, InTrace, SomeTraces, NoRace, NeverComes, Boards, Ordering, Capture}
+use Rattle.vme_program.specs.declared.faults.ProgramFault.TheVariants.{CannotRead, TooLong, Engine, InTrace, SomeTraces, NoRace, NeverComes, Boards, Ordering, Probing}
 
 abbrev pub Known : Type 0
 Known = Option (List ℕ)
@@ -93,12 +93,12 @@ Ordered Ends (Err (run.Engine f)) = Ends (Err (order.Engine f))
 Ordered Ends (Err _) = ⊥
 
 -- what the engine `probe` does on a plan and a capture
-abbrev pub OnCapture : Known → Known → ProbeAnswer → Type 0
-OnCapture old new answer = (text : List ℕ) × (from : Known) × (to : Known)
+abbrev pub OnCapture : Option ℕ → Known → Known → ProbeAnswer → Type 0
+OnCapture skew old new answer = (text : List ℕ) × (from : Known) × (to : Known)
     × (let s = streams from to old new in
-    LentCapture text (ReadNothing s × WroteNothing s) (ProbesInput s) answer)
+    LentCapture text (ReadNothing s × WroteNothing s) (ProbesInput skew s) answer)
 
--- the answer of `probe`, without the faults of the capture
+-- the answer of `probe`, without the faults that it has alone
 abbrev pub Probed : (ProbeAnswer → Type 0) → Result Status RunFault → Type 0
 Probed Ends (Ok status) = Ends (Ok status)
 Probed Ends (Err (run.Engine f)) = Ends (Err (probe.Engine f))
@@ -150,7 +150,7 @@ Does (Same scenario trace other) old new = Alone (λ answer.
     × LentAsking text (Keeps old new) (ComparesFiles trace.now other.now old new) answer)
 Does (Order scenario moments slacks places progress) old new =
     Ordered (OnMoments (form_of places) slacks old new)
-Does (Probe scenario capture) old new = Probed (OnCapture old new)
+Does (Probe scenario capture skew) old new = Probed (OnCapture skew old new)
 Does (Drive scenario edges version) old new = Alone (λ answer.
     (text : List ℕ) × Lent text (Keeps old new) (Drives version edges old new) answer)
 Does (Draw scenario edges seed until version) old new = Alone (λ answer.
@@ -175,7 +175,7 @@ Fails (Checks scenario traces) old new SomeTraces = HasFaulty (texts_of traces.i
 Fails (Sums scenario traces) old new SomeTraces = LacksFiles (texts_of traces.items) old new
 Fails (Order scenario moments slacks places progress) old new (Ordering f) =
     OnMoments (form_of places) slacks old new (Err f)
-Fails (Probe scenario capture) old new (Capture f) = OnCapture old new (Err (probe.Capture f))
+Fails (Probe scenario capture skew) old new (Probing f) = OnCapture skew old new (Err f)
 Fails (OtherOrder scenario trace edge) old new (NoRace asked) =
     (asked ≡ edge) × OnRace edge old new (Ok other.NoRace)
 Fails (Draw scenario edges seed until version) old new (NeverComes why) = GivesUp until old new why
@@ -199,7 +199,7 @@ Hands Ends Stops Fails nothing (Err SomeTraces) = Fails SomeTraces
 Hands Ends Stops Fails nothing (Err (NoRace edge)) = Fails (NoRace edge)
 Hands Ends Stops Fails nothing (Err (NeverComes why)) = Fails (NeverComes why)
 Hands Ends Stops Fails nothing (Err (Ordering f)) = Fails (Ordering f)
-Hands Ends Stops Fails nothing (Err (Capture f)) = Fails (Capture f)
+Hands Ends Stops Fails nothing (Err (Probing f)) = Fails (Probing f)
 
 -- the job is done in this way
 abbrev pub IsDone : Job → Known → Known → Result Status ProgramFault → Type 0

@@ -24,7 +24,7 @@ use Rattle.vme_command_line.specs.Asked.{texts_of}
 use Rattle.vme_command_line.specs.declared.Job.{Job}
 use Rattle.vme_command_line.specs.declared.Job.TheVariants.{Joined, OwnVersion, Replay, Check, Checks, Cycles, Explain, Shrink, Rules, State, Show, Summary, Sums, Races, Walk, OtherOrder, Same, Order, Probe, Drive, Draw, Search, Run}
 use Rattle.vme_program.specs.declared.faults.ProgramFault.{ProgramFault}
-use Rattle.vme_program.specs.declared.faults.ProgramFault.TheVariants.{CannotRead, TooLong, Engine, InTrace, SomeTraces, NoRace, NeverComes, Boards, Ordering, Capture}
+use Rattle.vme_program.specs.declared.faults.ProgramFault.TheVariants.{CannotRead, TooLong, Engine, InTrace, SomeTraces, NoRace, NeverComes, Boards, Ordering, Probing}
 
 -- the name of the scenario of a job: standard input is `-`, and the version has none
 abbrev pub scenario_name : Job → List ℕ
@@ -46,7 +46,7 @@ scenario_name (Walk scenario trace edge) = scenario.now
 scenario_name (OtherOrder scenario trace edge) = scenario.now
 scenario_name (Same scenario trace other) = scenario.now
 scenario_name (Order scenario moments slacks places progress) = scenario.now
-scenario_name (Probe scenario capture) = scenario.now
+scenario_name (Probe scenario capture skew) = scenario.now
 scenario_name (Drive scenario edges version) = scenario.now
 scenario_name (Draw scenario edges seed until version) = scenario.now
 scenario_name (Search scenario edges first last goal version progress) = scenario.now
@@ -77,7 +77,7 @@ IsFileOf (Same scenario trace other) name =
     (name ≡ scenario.now) ⊎ (name ≡ trace.now) ⊎ (name ≡ other.now)
 IsFileOf (Order scenario moments slacks places progress) name =
     (name ≡ scenario.now) ⊎ (name ≡ moments.now)
-IsFileOf (Probe scenario capture) name = (name ≡ scenario.now) ⊎ (name ≡ capture.now)
+IsFileOf (Probe scenario capture skew) name = (name ≡ scenario.now) ⊎ (name ≡ capture.now)
 IsFileOf (Drive scenario edges version) name = name ≡ scenario.now
 IsFileOf (Draw scenario edges seed until version) name = name ≡ scenario.now
 IsFileOf (Search scenario edges first last goal version progress) name = name ≡ scenario.now
@@ -136,7 +136,8 @@ abbrev pub probe_answer_named :
     Bor (List ℕ) → Result Status ProbeFault → Result Status ProgramFault
 probe_answer_named name (Ok status) = Ok status
 probe_answer_named name (Err (probe.Engine f)) = Err (fault_named name f)
-probe_answer_named name (Err (probe.Capture f)) = Err (Capture f)
+probe_answer_named name (Err (probe.Capture f)) = Err (Probing (probe.Capture f))
+probe_answer_named name (Err probe.TooManyOrders) = Err (Probing probe.TooManyOrders)
 
 -- the answer about the other order of the race of this edge
 abbrev pub other_answer_named :
@@ -171,4 +172,4 @@ IsFaultOf job (NoRace edge) = Unit {0}
 IsFaultOf job (NeverComes why) = Unit {0}
 IsFaultOf job (Boards fault) = Unit {0}
 IsFaultOf job (Ordering fault) = Unit {0}
-IsFaultOf job (Capture fault) = Unit {0}
+IsFaultOf job (Probing fault) = Unit {0}

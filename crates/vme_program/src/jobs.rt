@@ -729,7 +729,11 @@ pub fn run<'a, R: Threads + Wait + Sync, W: Write>(
             places,
             progress,
         } => run_order(rt, scenario, moments, &slacks, places, progress, out),
-        Job::Probe { scenario, capture } => run_probe(rt, scenario, capture, out),
+        Job::Probe {
+            scenario,
+            capture,
+            skew,
+        } => run_probe(rt, scenario, capture, skew, out),
         Job::Drive {
             scenario,
             edges,

@@ -20,7 +20,7 @@ fn answer_of_probe<'a>(
     match answer {
         Ok(status) => Ok(status),
         Err(ProbeFault::Engine(fault)) => Err(ProgramFault::of_engine(name, fault)),
-        Err(ProbeFault::Capture(fault)) => Err(ProgramFault::Capture(fault)),
+        Err(fault) => Err(ProgramFault::Probing(fault)),
     }
 }
 
@@ -30,13 +30,14 @@ pub(crate) fn run_probe<'a, W: Write>(
     rt: &HostRuntime,
     scenario: &'a str,
     capture: &'a str,
+    skew: Option<u64>,
     out: &mut W,
 ) -> Result<Status, ProgramFault<'a>>
-    ensures fault { IfErr result (IsFaultOf (Job.Probe scenario.entry capture.entry)) }
-    ensures done { IsDone (Job.Probe scenario.entry capture.entry)
+    ensures fault { IfErr result (IsFaultOf (Job.Probe scenario.entry capture.entry skew)) }
+    ensures done { IsDone (Job.Probe scenario.entry capture.entry skew)
         (W.contents out.old) (W.contents out.new) result }
 {
     let text = read_scenario(rt, scenario)?;
     let mut input = open(rt, capture)?;
-    answer_of_probe(scenario, probe(rt.alloc(), &text, &mut input, out))
+    answer_of_probe(scenario, probe(rt.alloc(), &text, skew, &mut input, out))
 }
