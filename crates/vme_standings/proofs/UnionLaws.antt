@@ -1,5 +1,5 @@
 -- What covers a part of a bus covers it in a union.
-use Rattle.std.proofs.Common.{◌≡◌, ◌⊎◌, ◌<◌, ℕ, Bool, true, false, List, refl, arith, inl, inr}
+use Rattle.std.proofs.Common.{◌≡◌, ◌∙◌, ◌⊎◌, ◌<◌, ℕ, Bool, true, List, arith, inl, inr}
 use Rattle.std.specs.Prelude.{◌||◌, nat_lt}
 use Rattle.std.proofs.lemmas.Bool.Decides.{nat_tests}
 use Rattle.vme_bus.specs.declared.sets.SlotSet.{SlotSet}
@@ -20,14 +20,14 @@ use Rattle.vme_standings.specs.FrontCovers.{CoversFronts, HasComeTo}
 use Rattle.vme_standings.specs.Phases.{has_phase, is_in_table}
 use Rattle.vme_standings.specs.Requests.{CoversRequests, request_of}
 use Rattle.vme_standings.specs.RequestSets.{may_be}
+use Rattle.vme_standings.proofs.Tests.{or_left, or_true}
 use Rattle.vme_standings.specs.Unions.{UnitesFronts, UnitesPhases, UnitesRequests, UnitesSlots}
 
 pub left : (x a b : Bool) → x ≡ (a || b) → a ≡ true → x ≡ true
-left x true b e l = e
+left x a b e l = e ∙ or_left a b l
 
 pub right : (x a b : Bool) → x ≡ (a || b) → b ≡ true → x ≡ true
-right x true true e l = e
-right x false true e l = e
+right x a b e l = e ∙ or_true a b l
 
 pub either_way : (x a b : Bool) → x ≡ (a || b) → (a ≡ true) ⊎ (b ≡ true) → x ≡ true
 either_way x a b e (inl l) = left x a b e l

@@ -1,7 +1,7 @@
 //! What holds of a bus of which one of two is known: what covers a part of it in one of the two
 //! covers it in their union.
 //!
-//! These functions do nothing. Each is a theorem, which its contract states. `a` and `b` are what
+//! The function does nothing. It is a theorem, which its contract states. `a` and `b` are what
 //! is known by the one and by the other, and `new` by their union.
 ghost use Rattle.std.specs.Prelude.{◌≡◌, ◌⊎◌, ℕ, true, List};
 ghost use Rattle.vme_bus.specs.declared.sets.SlotSet.{SlotSet};
@@ -19,28 +19,17 @@ ghost use Rattle.vme_standings.specs.declared.phases.GrantPhase.{GrantPhase};
 ghost use Rattle.vme_standings.specs.declared.phases.GrantPhases.{GrantPhases};
 ghost use Rattle.vme_standings.specs.declared.requests.Requests.{Requests};
 
-/// What covers the interrupt requests covers them in the union.
-pub fn union_covers_requests()
-    ensures { (p : Plan) (h : List Edge) (a b new : Requests) → UnitesRequests a b new
+/// What covers the interrupt requests, who drives a wire, or how far an acknowledge has come, covers
+/// them in the union; and a phase of the grants and BBSY* that one of the two has is in it.
+pub fn union_covers_what_one_covers()
+    ensures requests { (p : Plan) (h : List Edge) (a b new : Requests) → UnitesRequests a b new
         → CoversRequests p h (may_be a) ⊎ CoversRequests p h (may_be b)
         → CoversRequests p h (may_be new) }
-{}
-
-/// What covers who drives a wire covers them in the union.
-pub fn union_covers_drivers()
-    ensures { (h : List Edge) (w : Wire) (a b new : SlotSet) → UnitesSlots a b new
+    ensures drivers { (h : List Edge) (w : Wire) (a b new : SlotSet) → UnitesSlots a b new
         → CoversDrivers h w a ⊎ CoversDrivers h w b → CoversDrivers h w new }
-{}
-
-/// What covers how far an acknowledge has come covers it in the union.
-pub fn union_covers_fronts()
-    ensures { (p : Plan) (h : List Edge) (a b new : Fronts) → UnitesFronts a b new
+    ensures fronts { (p : Plan) (h : List Edge) (a b new : Fronts) → UnitesFronts a b new
         → CoversFronts p h a ⊎ CoversFronts p h b → CoversFronts p h new }
-{}
-
-/// A phase of the grants and BBSY* that one of the two has is in the union.
-pub fn union_has_phases()
-    ensures { (a b new : GrantPhases) (q : GrantPhase) → UnitesPhases a b new
+    ensures phases { (a b new : GrantPhases) (q : GrantPhase) → UnitesPhases a b new
         → is_in_table q ≡ true → (has_phase a q ≡ true) ⊎ (has_phase b q ≡ true)
         → has_phase new q ≡ true }
 {}

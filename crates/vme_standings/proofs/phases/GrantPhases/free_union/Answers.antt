@@ -15,9 +15,9 @@ loop-level-preserved c =
     each_level n c.either-is_idle.result c.or-lasts.result c.or-firsts.result c.loop-level.union c.set_level.new.self c.set_level.ensures
     (λ c' i l f. PassesLevel (λ q. has_phase one q || has_phase two q) c' i l f)
     (record {
-      idle = c.either-is_idle.ensures ∙ ap (λ x. x || c.is_idle_at-2.result) c.is_idle_at.ensures ∙ ap (λ x. has_phase one (Idle n) || x) c.is_idle_at-2.ensures;
-      granting = λ t l. c.or-lasts.ensures t ∙ ap (λ r. has r t || has c.granting_row-2.result t) c.granting_row.ensures ∙ ap (λ r. has_phase one (Granting n t) || has r t) c.granting_row-2.ensures;
-      expired = λ t l. c.or-firsts.ensures t ∙ ap (λ r. has r t || has c.expired_row-2.result t) c.expired_row.ensures ∙ ap (λ r. has_phase one (Expired n t) || has r t) c.expired_row-2.ensures;
+      idle = c.either-is_idle.ensures ∙ ap (λ x. x || c.is_idle_at-in-loop-level.result) c.is_idle_at.ensures ∙ ap (λ x. has_phase one (Idle n) || x) c.is_idle_at-in-loop-level.ensures;
+      granting = λ t l. c.or-lasts.ensures t ∙ ap (λ r. has r t || has c.granting_row-in-loop-level.result t) c.granting_row.ensures ∙ ap (λ r. has_phase one (Granting n t) || has r t) c.granting_row-in-loop-level.ensures;
+      expired = λ t l. c.or-firsts.ensures t ∙ ap (λ r. has r t || has c.expired_row-in-loop-level.result t) c.expired_row.ensures ∙ ap (λ r. has_phase one (Expired n t) || has r t) c.expired_row-in-loop-level.ensures;
     })
     c.loop-level.invariant
 
