@@ -217,20 +217,27 @@ pub record IsOverfull (p : Plan) (version : Version) (skew : Option ℕ) (said :
   pub joined : joins most waiting (seen_at said c).moment ≡ true
   pub full : length waiting ≡ 12
 
--- All that is written of a capture that says this: each change may have been made.
-pub record IsWhole (p : Plan) (version : Version) (skew : Option ℕ) (said : List Entry) (text : List ℕ) : Type 0 where
+-- The lines of all changes of a capture that says this, and what is known then: each change may have
+-- been made.
+pub record HasLines (p : Plan) (version : Version) (skew : Option ℕ) (said : List Entry) (after : Known) (text : List ℕ) : Type 0 where
   pub before : Option Known
   pub waits : List SeenChange
   pub lines : List ℕ
   pub judged : Judged p version skew said before waits lines
   pub known : Known
   pub begun : Begun p version said before known
-  pub after : Known
   pub sample : List ℕ
   pub takes : TakesSample p known waits after sample
+  pub is : text ≡ lines ++ sample
+
+-- All that is written of such a capture.
+pub record IsWhole (p : Plan) (version : Version) (skew : Option ℕ) (said : List Entry) (text : List ℕ) : Type 0 where
+  pub after : Known
+  pub lines : List ℕ
+  pub has : HasLines p version skew said after lines
   pub last : List ℕ
   pub ends : Ends p after (probes_of p said) last
-  pub is : text ≡ (lines ++ sample) ++ last
+  pub is : text ≡ lines ++ last
 
 -- All that is written of a capture that says this, if its last sample is impossible.
 pub record IsStoppedAtEnd (p : Plan) (version : Version) (skew : Option ℕ) (said : List Entry) (text : List ℕ) : Type 0 where

@@ -21,7 +21,7 @@ use Rattle.vme_samples.specs.declared.samples.SeenChange.{SeenChange}
 use Rattle.vme_probe.specs.declared.judging.Known.{Known}
 use Rattle.vme_probe.specs.declared.probes.ProbeFault.{ProbeFault}
 use Rattle.vme_probe.specs.declared.probes.ProbeFault.TheVariants as fault
-use Rattle.vme_probe.specs.Knowing.{IsOverfull, IsStoppedAtEnd, IsUnbegun, IsWhole, Judged, StopsAt}
+use Rattle.vme_probe.specs.Knowing.{HasLines, IsOverfull, IsStoppedAtEnd, IsUnbegun, IsWhole, Judged, StopsAt}
 
 abbrev pub Answer : Type 0
 Answer = Result Status ProbeFault
@@ -43,6 +43,16 @@ pub record IsPossible (p : Plan) (skew : Option ℕ) (r : Reading) (text : List 
   pub said : List Entry
   pub are : r.entries ≡ reverse said
   pub is : IsWhole p version skew said text
+
+-- The lines of all changes of a whole capture.
+pub record HasAllLines (p : Plan) (skew : Option ℕ) (r : Reading) (text : List ℕ) : Type 0 where
+  pub version : Version
+  pub named : r.version ≡ Some version
+  pub whole : r.fault ≡ None
+  pub said : List Entry
+  pub are : r.entries ≡ reverse said
+  pub after : Known
+  pub has : HasLines p version skew said after text
 
 -- The levels of a whole head without a moment are those of no bus that keeps the rules; or the last
 -- sample of a whole capture is impossible.
@@ -86,12 +96,12 @@ pub record IsJudged (p : Plan) (skew : Option ℕ) (r : Reading) (said : List En
 abbrev pub IsToWrite : Plan → Option ℕ → Reading → List ℕ → Type 0
 IsToWrite p skew r text =
     ((said : List Entry) × IsJudged p skew r said text) ⊎ StopsIn p skew r text
-    ⊎ IsImpossibleAtEnd p skew r text ⊎ IsPossible p skew r text
+    ⊎ IsImpossibleAtEnd p skew r text ⊎ HasAllLines p skew r text ⊎ IsPossible p skew r text
 
 -- What `probe` leaves of a capture on a plan. Nothing is read behind what is impossible. At a fault
 -- of the capture the lines of the changes that were judged before it are written; X5 comes behind
 -- what was read, X6 at a pin, and F5 at the 13th change of a sample. At X8 a prefix of a text was
--- written. At F3 there was no memory for samples.
+-- written.
 abbrev pub Probes : Plan → Option ℕ → List ℕ → Streams → Answer → Type 0
 Probes p skew bytes s (Ok Done) =
     IsReadOut s × (text : List ℕ) × IsPossible p skew (read_of p bytes) text × Wrote s text
@@ -108,17 +118,24 @@ Probes p skew bytes s (Err (fault.Capture f)) =
     (said : List Entry) × (text : List ℕ) × IsFaultAfter (read_of p bytes) said f
     × IsJudged p skew (read_of p bytes) said text × Wrote s text
 Probes p skew bytes s (Err fault.TooManyOrders) =
-    (read : List ℕ) × HasConsumed s read × (text : List ℕ)
-    × IsOverfullIn p skew (read_of p read) text × Wrote s text
+    (text : List ℕ) × IsOverfullIn p skew (read_of p bytes) text × Wrote s text
 Probes p skew bytes s (Err (fault.Engine (engine.Trace trace.Write))) =
     (text : List ℕ) × IsToWrite p skew (read_of p bytes) text × WroteFront s text
-Probes p (Some skew) bytes s (Err (fault.Engine engine.NoMemory)) = ReadNothing s × WroteNothing s
 Probes p skew bytes s (Err (fault.Engine _)) = ⊥
 
 -- a judgement of the whole input
 abbrev pub ProbesInput : Option ℕ → Streams → Plan → Answer → Type 0
 ProbesInput skew s p answer =
     (bytes : List ℕ) × IsInput s.from bytes × Probes p skew bytes s answer
+
+-- the same, or F3: there was no memory for samples, and nothing was done
+abbrev pub HasRoom : Answer → Option ℕ → Type 0 → Type 0 → Type 0
+HasRoom (Err (fault.Engine engine.NoMemory)) (Some skew) nothing Runs = nothing
+HasRoom answer skew nothing Runs = Runs
+
+abbrev pub ProbesText : Option ℕ → Streams → Plan → Answer → Type 0
+ProbesText skew s p answer =
+    HasRoom answer skew (ReadNothing s × WroteNothing s) (ProbesInput skew s p answer)
 
 -- An engine that is lent the text of a scenario: the first fault is answered and `nothing` is
 -- done, or it runs on the plan.

@@ -13,7 +13,7 @@ use Rattle.vme_samples.specs.declared.samples.SeenChange.{SeenChange}
 use Rattle.vme_samples.specs.Makers.{by_at}
 use Rattle.vme_samples.specs.Places.{has_place}
 use Rattle.vme_samples.specs.Samples.{comes_next}
-use Rattle.vme_samples.specs.Ways.{AreMakersOf, AreWays, Gathered, IsFurthest, Known as Ways, hidden_behind}
+use Rattle.vme_samples.specs.Ways.{AreMakers, AreWays, Gathered, IsFurthest, Known as Ways, hidden_behind}
 use Rattle.vme_probe.specs.declared.judging.Known.{Known}
 use Rattle.vme_probe.specs.Lines.{change_line, impossible_line}
 use Rattle.vme_probe.specs.Stopped.{is_refused_by_ours, refused_text}
@@ -70,8 +70,7 @@ pub record Samples (p : Plan) (old : Known) (sample : List SeenChange) (new : Kn
   pub behind : Gathered p old.probed sample ways (all_places sample) (length sample)
       (Some new.standings)
   pub makers : Makers
-  pub are_makers : (i : ℕ) → i < length sample
-      → AreMakersOf p old.probed sample ways (all_places sample) i (by_at makers i)
+  pub are_makers : AreMakers p old.probed sample ways (all_places sample) (by_at makers)
   pub is : text ≡ placed_lines sample (all_places sample) makers (length sample)
   pub probed : new.probed ≡ old.probed
   pub changes : new.changes ≡ min (old.changes + length sample) (2 ^ 64 - 1)
@@ -87,8 +86,7 @@ pub record CannotSample (p : Plan) (old : Known) (sample : List SeenChange) (tex
   pub hidden : Standings
   pub behind : hidden_behind ways furthest ≡ Some hidden
   pub makers : Makers
-  pub are_makers : (i : ℕ) → i < length sample
-      → AreMakersOf p old.probed sample ways furthest i (by_at makers i)
+  pub are_makers : AreMakers p old.probed sample ways furthest (by_at makers)
   pub first : SeenChange
   pub is_first : slice_get sample 0 ≡ Some first
   pub refused : List ℕ

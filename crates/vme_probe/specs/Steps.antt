@@ -20,7 +20,7 @@ use Rattle.vme_samples.specs.Ways.{AreWays, Gathered, Known as Ways}
 use Rattle.vme_probe.specs.declared.judging.Known.{Known}
 use Rattle.vme_probe.specs.declared.probes.ProbeFault.{ProbeFault}
 use Rattle.vme_probe.specs.declared.probes.ProbeFault.TheVariants as fault
-use Rattle.vme_probe.specs.Knowing.{Begins, CannotBegin, Ends, Follows, IsOverfull, IsStoppedAtEnd, IsUnbegun, IsWhole, Judged, Stops, StopsAt, StopsSample, TakesSample, Waits, no_beginning}
+use Rattle.vme_probe.specs.Knowing.{Begins, CannotBegin, Ends, Follows, HasLines, IsOverfull, IsStoppedAtEnd, IsUnbegun, IsWhole, Judged, Stops, StopsAt, StopsSample, TakesSample, Waits, no_beginning}
 use Rattle.vme_probe.specs.Lines.{change_line}
 use Rattle.vme_probe.specs.Sampled.{CannotSample, Samples, all_places}
 
@@ -177,6 +177,12 @@ EntryTaken p skew version said e known waits from to (Err (fault.Engine (engine.
     × AppendsFront from to text
 EntryTaken p skew version said e known waits from to (Err _) = ⊥
 
+-- what is to be written behind all that was said
+abbrev pub IsOfEnd : Plan → Version → Option ℕ → List Entry → List ℕ → Type 0
+IsOfEnd p version skew said text =
+    IsUnbegun p version skew said text ⊎ IsStoppedAtEnd p version skew said text
+    ⊎ ((k : Known) × HasLines p version skew said k text) ⊎ IsWhole p version skew said text
+
 -- the end was written
 abbrev pub WholeWritten :
     Plan → Option ℕ → Version → List Entry → Option (List ℕ) → Option (List ℕ)
@@ -190,5 +196,4 @@ WholeWritten p skew version said from to (Ok SomeRefused) =
 WholeWritten p skew version said from to (Ok Limit) = ⊥
 WholeWritten p skew version said from to (Err f) =
     (f ≡ Write) × (text : List ℕ)
-    × (IsUnbegun p version skew said text ⊎ IsStoppedAtEnd p version skew said text
-    ⊎ IsWhole p version skew said text) × AppendsFront from to text
+    × IsOfEnd p version skew said text × AppendsFront from to text

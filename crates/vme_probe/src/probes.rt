@@ -9,7 +9,7 @@ ghost use Rattle.vme_captures.specs.Spelling.{is_entry};
 ghost use Rattle.vme_reading.specs.Streams.{ReadNothing, WroteNothing, streams};
 ghost use Rattle.vme_probe.specs.Ends.{are_slots};
 ghost use Rattle.vme_probe.specs.Faults.{capture_fault, engine_fault, output_fault};
-ghost use Rattle.vme_probe.specs.Probing.{LentText, ProbesInput};
+ghost use Rattle.vme_probe.specs.Probing.{LentText, ProbesInput, ProbesText};
 ghost use Rattle.vme_probe.specs.Reads.{EndTaken, IsAt, IsNew, ReadTaken, ReadsSome, ReadsTo, Taken, skew_of, waiting_in};
 ghost use Rattle.vme_probe.specs.Steps.{EntryTaken, HeadEnded, HeadTaken, NextTaken, Stands, WholeWritten};
 
@@ -267,13 +267,13 @@ impl Judging {
     /// X8 if that failed; a prefix of the text was written then.
     fn write_end<W: Write>(&mut self, plan: &Plan, out: &mut W) -> Result<Status, Fault>
         requires { IsTrue (are_slots self.old.reader.probes.items) }
-        ensures { (version : VersionValue) (bytes : List ℕ) (said : List EntryValue)
-            (from : Option (List ℕ)) → self.old.reader.version ≡ Some version
+        ensures { (skew : Option ℕ) (version : VersionValue) (bytes : List ℕ)
+            (said : List EntryValue) (from : Option (List ℕ))
+            → self.old.reader.version ≡ Some version
             → HasRead plan.now self.old.reader bytes said
-            → Stands plan.now (skew_of self.old.sampling) version said self.old.known
-            (waiting_in self.old.sampling) from (W.contents out.old)
-            → WholeWritten plan.now (skew_of self.old.sampling) version said
-            from (W.contents out.new) result }
+            → Stands plan.now skew version said self.old.known (waiting_in self.old.sampling)
+            from (W.contents out.old)
+            → WholeWritten plan.now skew version said from (W.contents out.new) result }
     {
         let Some(mut known) = self.known else {
             return self.write_head(plan, out);
@@ -451,7 +451,7 @@ fn probe_on<R: Read, W: Write>(
     capture: &mut R,
     out: &mut W,
 ) -> Result<Status, ProbeFault>
-    ensures { ProbesInput skew (streams (R.remaining capture.old) (R.remaining capture.new)
+    ensures { ProbesText skew (streams (R.remaining capture.old) (R.remaining capture.new)
         (W.contents out.old) (W.contents out.new)) plan.now result }
 {
     let mut judging = Judging {
@@ -486,7 +486,7 @@ pub fn probe<R: Read, W: Write>(
 ) -> Result<Status, ProbeFault>
     ensures { let s = streams (R.remaining capture.old) (R.remaining capture.new)
         (W.contents out.old) (W.contents out.new) in
-        LentText scenario.now (ReadNothing s × WroteNothing s) (ProbesInput skew s) result }
+        LentText scenario.now (ReadNothing s × WroteNothing s) (ProbesText skew s) result }
 {
     let plan = plan_of(alloc, scenario)?;
     probe_on(alloc, &plan, skew, capture, out)

@@ -23,7 +23,7 @@ use Rattle.vme_order.specs.declared.Form.{Form}
 use Rattle.vme_order.specs.declared.OrderingFault.TheVariants as order
 use Rattle.vme_order.specs.Ordering.{Answer as OrderAnswer, LentText, OrdersInput}
 use Rattle.vme_probe.specs.declared.ProbeFault.TheVariants as probe
-use Rattle.vme_probe.specs.Probing.{Answer as ProbeAnswer, LentText as LentCapture, ProbesInput}
+use Rattle.vme_probe.specs.Probing.{Answer as ProbeAnswer, LentText as LentCapture, ProbesText}
 use Rattle.vme_command_line.specs.declared.Job.TheVariants.{Joined, OtherOrder, Order, Probe, Run}
 use Rattle.vme_program.specs.declared.faults.ProgramFault.{ProgramFault}
 use Rattle.vme_program.specs.Done.{Alone, Hands, IsDone, Known, OnTrace}
@@ -105,7 +105,7 @@ order_formed scenario moments text slacks places progress form from to old new a
 
 -- an engine on a scenario and a capture
 pub probe_done : (scenario capture : Bor (List ℕ)) (skew : Option ℕ) (text : List ℕ) (from to old new : Known) (answer : ProbeAnswer)
-    → LentCapture text (ReadNothing (streams from to old new) × WroteNothing (streams from to old new)) (ProbesInput skew (streams from to old new)) answer
+    → LentCapture text (ReadNothing (streams from to old new) × WroteNothing (streams from to old new)) (ProbesText skew (streams from to old new)) answer
     → IsDone (Probe scenario capture skew) old new (probe_answer_named scenario answer)
 probe_done scenario capture skew text from to old new (Ok status) does = (text, from, to, does)
 probe_done scenario capture skew text from to old new (Err (probe.Engine fault.CannotRead)) does = absurd does.3.2

@@ -40,7 +40,7 @@ use Rattle.vme_order.specs.declared.Form.{Form}
 use Rattle.vme_order.specs.declared.OrderingFault.TheVariants as order
 use Rattle.vme_order.specs.Ordering.{Answer as OrderAnswer, LentText, OrdersInput}
 use Rattle.vme_probe.specs.declared.ProbeFault.TheVariants as probe
-use Rattle.vme_probe.specs.Probing.{Answer as ProbeAnswer, LentText as LentCapture, ProbesInput}
+use Rattle.vme_probe.specs.Probing.{Answer as ProbeAnswer, LentText as LentCapture, ProbesText}
 use Rattle.vme_command_line.specs.declared.Job.{Job}
 use Rattle.vme_command_line.specs.declared.Job.TheVariants.{Joined, OwnVersion, Replay, Check, Checks, Cycles, Explain, Shrink, Rules, State, Show, Summary, Sums, Races, Walk, OtherOrder, Same, Order, Probe, Drive, Draw, Search, Run}
 use Rattle.vme_command_line.specs.Asked.{Ask, texts_of}
@@ -96,7 +96,7 @@ Ordered Ends (Err _) = ⊥
 abbrev pub OnCapture : Option ℕ → Known → Known → ProbeAnswer → Type 0
 OnCapture skew old new answer = (text : List ℕ) × (from : Known) × (to : Known)
     × (let s = streams from to old new in
-    LentCapture text (ReadNothing s × WroteNothing s) (ProbesInput skew s) answer)
+    LentCapture text (ReadNothing s × WroteNothing s) (ProbesText skew s) answer)
 
 -- the answer of `probe`, without the faults that it has alone
 abbrev pub Probed : (ProbeAnswer → Type 0) → Result Status RunFault → Type 0

@@ -1,6 +1,6 @@
 -- What is known of the bus behind each set of the changes of a sample, and who may have made each
 -- change on a way to all of a set.
-use Rattle.std.specs.Prelude.{◌≡◌, ◌≢◌, ◌⊎◌, ◌<◌, ◌≤◌, ◌&&◌, ◌^◌, ℕ, zero, suc, Bool, true, false, List, Option, Some, None, length, slice_index_or, count_ones}
+use Rattle.std.specs.Prelude.{◌≡◌, ◌≢◌, ◌⊎◌, ◌<◌, ◌≤◌, ◌&&◌, ◌^◌, ℕ, zero, suc, Bool, true, false, List, Option, Some, None, length, nat_le, slice_index_or, count_ones}
 use Rattle.std.specs.List.{slice_get}
 use Rattle.vme_model.specs.Plan.{Plan}
 use Rattle.vme_bus.specs.Sets.{has}
@@ -28,15 +28,11 @@ Known = List (Option Standings)
 abbrev pub hidden_behind : Known → Places → Option Standings
 hidden_behind known set = slice_index_or known set.bits None
 
--- some of these may make the change
-pub record AreMakers (p : Plan) (probed : Probed) (hidden : Standings) (c : Change) (d : Drivers) : Type 0 where
-  pub drivers : AreDrivers p probed hidden c d
-  pub some : is_nobody d ≡ false
-
 -- somebody may make the change, and that is known behind it
 pub record Makes (p : Plan) (probed : Probed) (hidden : Standings) (c : Change) (new : Standings) : Type 0 where
   pub drivers : Drivers
-  pub makers : AreMakers p probed hidden c drivers
+  pub are : AreDrivers p probed hidden c drivers
+  pub some : is_nobody drivers ≡ false
   pub behind : IsBehind p probed hidden c new
 
 -- nobody may make it
@@ -114,40 +110,82 @@ pub record IsFurthest (known : Known) (count : ℕ) (set : Places) : Type 0 wher
 
 -- ---- who may have made a change
 
--- these may make the change at the place next, behind the set
-pub record MakesNext (p : Plan) (probed : Probed) (sample : List SeenChange) (known : Known) (set : Places) (i : ℕ) (d : Drivers) : Type 0 where
-  pub seen : SeenChange
-  pub at : slice_get sample i ≡ Some seen
-  pub next : comes_next sample set i ≡ true
-  pub hidden : Standings
-  pub behind : hidden_behind known set ≡ Some hidden
-  pub makers : AreMakers p probed hidden seen.change d
+abbrev pub nobody : Drivers
+nobody = record { controller = false; boards = record { bits = 0 } }
 
--- from the set all of the goal is reached by so many changes more
-abbrev pub ReachesBy :
-    Plan → Probed → List SeenChange → Known → Places → ℕ → Places → Type 0
-ReachesBy p probed sample known goal zero set = set ≡ goal
-ReachesBy p probed sample known goal (suc n) set =
-    (i : ℕ) × (d : Drivers) × MakesNext p probed sample known set i d
-    × ReachesBy p probed sample known goal n (with set i)
+-- whether all of a set, the goal, is reached from each set, by its number
+abbrev pub Reaching : Type 0
+Reaching = List Bool
 
--- they make it on a way to all of the goal
-pub record MakesOnWay (p : Plan) (probed : Probed) (sample : List SeenChange) (known : Known) (goal : Places) (i : ℕ) (d : Drivers) : Type 0 where
-  pub before : Places
-  pub makes : MakesNext p probed sample known before i d
-  pub more : ℕ
-  pub reaches : ReachesBy p probed sample known goal more (with before i)
+abbrev pub reaching_at : Reaching → Places → Bool
+reaching_at reaching set = slice_index_or reaching set.bits false
 
--- exactly those who make the change at the place on some way to all of the goal
-pub record AreMakersOf (p : Plan) (probed : Probed) (sample : List SeenChange) (known : Known) (goal : Places) (i : ℕ) (d : Drivers) : Type 0 where
-  pub controller : d.controller ≡ true → (e : Drivers)
-      × MakesOnWay p probed sample known goal i e × (e.controller ≡ true)
-  pub boards : (s : ℕ) → has d.boards s ≡ true → (e : Drivers)
-      × MakesOnWay p probed sample known goal i e × (has e.boards s ≡ true)
-  pub all_controller : (e : Drivers) → MakesOnWay p probed sample known goal i e
-      → e.controller ≡ true → d.controller ≡ true
-  pub all_boards : (e : Drivers) (s : ℕ) → MakesOnWay p probed sample known goal i e
-      → has e.boards s ≡ true → has d.boards s ≡ true
+-- all of the goal is reached from the set; it is from none of a greater number
+abbrev pub is_reaching : Reaching → Places → Places → Bool
+is_reaching reaching goal set = nat_le set.bits goal.bits && reaching_at reaching set
+
+-- those who may make the change, if something is known before it
+abbrev pub AreOf : Plan → Probed → Option Standings → Option SeenChange → Drivers → Type 0
+AreOf p probed (Some hidden) (Some s) d = AreDrivers p probed hidden s.change d
+AreOf p probed _ _ d = d ≡ nobody
+
+-- those who may make the change at the place next behind the set, if all of the goal is reached then
+pub record MakeNext (p : Plan) (probed : Probed) (sample : List SeenChange) (known : Known) (goal : Places) (reaching : Reaching) (set : Places) (i : ℕ) (d : Drivers) : Type 0 where
+  pub able : comes_next sample set i ≡ true → is_reaching reaching goal (with set i) ≡ true
+      → AreOf p probed (hidden_behind known set) (slice_get sample i) d
+  pub late : comes_next sample set i ≡ false → d ≡ nobody
+  pub lost : is_reaching reaching goal (with set i) ≡ false → d ≡ nobody
+
+-- they may make it, and there is somebody
+pub record SomeMake (p : Plan) (probed : Probed) (sample : List SeenChange) (known : Known) (goal : Places) (reaching : Reaching) (set : Places) (i : ℕ) (d : Drivers) : Type 0 where
+  pub next : MakeNext p probed sample known goal reaching set i d
+  pub some : is_nobody d ≡ false
+
+-- all of these are among those
+pub record AreAmong (some all : Drivers) : Type 0 where
+  pub controller : some.controller ≡ true → all.controller ≡ true
+  pub boards : (s : ℕ) → has some.boards s ≡ true → has all.boards s ≡ true
+
+-- Of each set: those who may make the change at the place next behind it are among all of them, and
+-- if there is somebody, all of the goal is reached from it.
+pub record HasAll (p : Plan) (probed : Probed) (sample : List SeenChange) (known : Known) (goal : Places) (reaching : Reaching) (set : Places) (i : ℕ) (all : Drivers) : Type 0 where
+  pub drivers : Drivers
+  pub next : MakeNext p probed sample known goal reaching set i drivers
+  pub among : AreAmong drivers all
+  pub reaches : is_nobody drivers ≡ false → reaching_at reaching set ≡ true
+
+-- some of those who may make the change at the place next behind a set
+pub record Source (p : Plan) (probed : Probed) (sample : List SeenChange) (known : Known) (goal : Places) (reaching : Reaching) (i : ℕ) : Type 0 where
+  pub set : Places
+  pub near : set.bits ≤ goal.bits
+  pub drivers : Drivers
+  pub next : MakeNext p probed sample known goal reaching set i drivers
+
+-- exactly those who may make the change at the place on some way to all of the goal
+pub record AreMakersOf (p : Plan) (probed : Probed) (sample : List SeenChange) (known : Known) (goal : Places) (reaching : Reaching) (i : ℕ) (d : Drivers) : Type 0 where
+  pub controller : d.controller ≡ true
+      → (x : Source p probed sample known goal reaching i) × (x.drivers.controller ≡ true)
+  pub boards : (s : ℕ) → has d.boards s ≡ true
+      → (x : Source p probed sample known goal reaching i) × (has x.drivers.boards s ≡ true)
+  pub all : (set : Places) → set.bits ≤ goal.bits
+      → HasAll p probed sample known goal reaching set i d
+
+-- from the goal all of it is reached, and from another set by a change next behind it
+abbrev pub ReachesOn :
+    Plan → Probed → List SeenChange → Known → Places → Reaching → Places → Type 0
+ReachesOn p probed sample known goal reaching set =
+    (set ≡ goal)
+    ⊎ ((i : ℕ) × (i < length sample) × (d : Drivers)
+    × SomeMake p probed sample known goal reaching set i d)
+
+-- who may have made each change of the sample on the ways to all of the goal
+pub record AreMakers (p : Plan) (probed : Probed) (sample : List SeenChange) (known : Known) (goal : Places) (by : ℕ → Drivers) : Type 0 where
+  pub reaching : Reaching
+  pub at_goal : reaching_at reaching goal ≡ true
+  pub reaches : (set : Places) → set.bits ≤ goal.bits → reaching_at reaching set ≡ true
+      → ReachesOn p probed sample known goal reaching set
+  pub each : (i : ℕ) → i < length sample
+      → AreMakersOf p probed sample known goal reaching i (by i)
 
 -- ---- words
 

@@ -1,9 +1,9 @@
 //! Who may have made each change on a way to all changes of a set.
 ghost use Rattle.std.specs.Prelude.{◌≡◌, ◌≢◌, ◌<◌, ◌≤◌, ℕ, IsTrue, length};
 ghost use Rattle.vme_samples.specs.declared.places.Places.{Places as Set};
-ghost use Rattle.vme_samples.specs.Makers.{AreNext, AreNoted, UnitesDrivers, by_at, is_reaching, nobody, reaching_at};
+ghost use Rattle.vme_samples.specs.Makers.{AreNoted, UnitesDrivers, by_at};
 ghost use Rattle.vme_samples.specs.Samples.{are_changes};
-ghost use Rattle.vme_samples.specs.Ways.{AreMakersOf};
+ghost use Rattle.vme_samples.specs.Ways.{AreMakers, MakeNext, is_reaching, nobody, reaching_at};
 
 use crate::places::Places;
 use crate::samples::{MOST, SeenChange, comes_next};
@@ -89,8 +89,8 @@ impl Ways {
         requires changes { IsTrue (are_changes sample.now) }
         requires near { place < length sample.now }
         requires small { places.bits < 4096 }
-        ensures { AreNext plan.now probed.now sample.now self.now.known.items
-            self.now.reaching.items goal places place result }
+        ensures { MakeNext plan.now probed.now sample.now self.now.known.items goal
+            self.now.reaching.items places place result }
     {
         if !comes_next(sample, places, place) || !self.is_reaching(goal, places.with(place)) {
             return NOBODY;
@@ -115,16 +115,17 @@ impl Ways {
         requires few { length sample.now ≤ 12 }
         requires changes { IsTrue (are_changes sample.now) }
         requires small { places.bits < 4096 }
-        ensures { AreNoted plan.now probed.now sample.now self.now.known.items
-            self.now.reaching.items goal places (length sample.now) makers.old makers.new result }
+        ensures { AreNoted plan.now probed.now sample.now self.now.known.items goal
+            self.now.reaching.items places (length sample.now) makers.old makers.new result }
     {
-        let mut is_reaching = false;
+        let mut is_some = false;
         for place in 0..sample.len() {
             let drivers = self.makers_next(plan, probed, sample, goal, places, place);
             makers.note(place, drivers);
-            is_reaching = is_reaching || !drivers.is_nobody();
+            let is_nobody = drivers.is_nobody();
+            is_some = is_some || !is_nobody;
         }
-        is_reaching
+        is_some
     }
 
     /// Keeps whether all of the goal is reached from a set.
@@ -151,15 +152,14 @@ impl Ways {
         requires changes { IsTrue (are_changes sample.now) }
         requires small { goal.bits < 4096 }
         ensures known { self.new.known ≡ self.old.known }
-        ensures makers { (i : ℕ) → i < length sample.now
-            → AreMakersOf plan.now probed.now sample.now self.old.known.items goal i
-            (by_at result i) }
+        ensures makers { AreMakers plan.now probed.now sample.now self.old.known.items goal
+            (by_at result) }
     {
         let mut makers = Makers::none();
         for back in 0..goal.number() + 1 {
             let places = Places::numbered(goal.number() - back);
-            let goes_on = self.note_next(plan, probed, sample, goal, places, &mut makers);
-            self.set_reaching(places, goes_on || back == 0);
+            let is_some = self.note_next(plan, probed, sample, goal, places, &mut makers);
+            self.set_reaching(places, is_some || back == 0);
         }
         makers
     }

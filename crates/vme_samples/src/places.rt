@@ -8,7 +8,7 @@ pub const MOST: usize = 12;
 /// A set of places of a sample, a bit for each.
 #[derive(Clone, Copy, PartialEq, Eq)]
 pub struct Places {
-    bits: u16,
+    bits: u32,
 }
 
 impl Places {
@@ -31,7 +31,7 @@ impl Places {
         ensures { result.bits ≡ number }
     {
         Places {
-            bits: number as u16,
+            bits: number as u32,
         }
     }
 
@@ -39,10 +39,11 @@ impl Places {
     pub fn number(self) -> usize
         ensures { result ≡ self.bits }
     {
-        usize::from(self.bits)
+        self.bits as usize
     }
 
     /// Whether the place is in it.
+    #[tactic(auto, using(vme_bus::proofs::Masks::tested))]
     pub fn has(self, place: usize) -> bool
         requires { place < 12 }
         ensures { result ≡ has_place self place }
@@ -86,8 +87,13 @@ impl Places {
         ensures not { IsBefore self other → result ≡ true }
     {
         for place in 0..MOST {
-            if self.has(place) != other.has(place) {
-                return self.has(place);
+            let is_here = self.has(place);
+            let is_there = other.has(place);
+            if is_here && !is_there {
+                return true;
+            }
+            if is_there && !is_here {
+                return false;
             }
         }
         false

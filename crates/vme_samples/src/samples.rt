@@ -1,7 +1,8 @@
 //! The changes of a sample.
-ghost use Rattle.std.specs.Prelude.{◌≡◌, ◌<◌, ◌≤◌, ◌++◌, ◌∷◌, [], IsTrue, length, true, false};
+ghost use Rattle.std.specs.Prelude.{◌≡◌, ◌&&◌, ◌<◌, ◌≤◌, ◌++◌, ◌∷◌, [], IsTrue, length, not, true, false};
 ghost use Rattle.vme_captures.specs.Signals.{is_change, is_same_signal};
-ghost use Rattle.vme_samples.specs.Samples.{are_changes, comes_next, earlier_in, joins};
+ghost use Rattle.vme_samples.specs.Places.{has_place};
+ghost use Rattle.vme_samples.specs.Samples.{are_changes, comes_next, earlier_in, is_of, joins};
 
 pub use crate::places::MOST;
 use crate::places::Places;
@@ -36,18 +37,27 @@ fn is_same_signal(a: Signal, b: Signal) -> bool
     a == b
 }
 
+/// Whether the change at the place is of the line or pin, and is not in the set.
+fn is_missing(sample: &[SeenChange], signal: Signal, places: Places, place: usize) -> bool
+    requires few { length sample.now ≤ 12 }
+    requires near { place < length sample.now }
+    ensures { result ≡ (is_of sample.now signal place && not (has_place places place)) }
+{
+    is_same_signal(sample[place].change.signal, signal) && !places.has(place)
+}
+
 /// Whether the places of all earlier changes of the line or pin are in the set.
 fn earlier_in(sample: &[SeenChange], signal: Signal, places: Places, place: usize) -> bool
     requires few { length sample.now ≤ 12 }
     requires near { place ≤ length sample.now }
     ensures { result ≡ earlier_in sample.now signal places place }
 {
+    let mut are_in = true;
     for earlier in 0..place {
-        if is_same_signal(sample[earlier].change.signal, signal) && !places.has(earlier) {
-            return false;
-        }
+        let is_missing = is_missing(sample, signal, places, earlier);
+        are_in = are_in && !is_missing;
     }
-    true
+    are_in
 }
 
 /// Whether the change at the place may come next behind those of a set: it is not in it, and all

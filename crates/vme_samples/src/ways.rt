@@ -73,7 +73,10 @@ impl Ways {
     pub fn hidden_behind(&self, places: Places) -> Option<Standings>
         ensures { result ≡ hidden_behind self.now.known.items places }
     {
-        self.known.get(places.number()).copied().flatten()
+        match self.known.get(places.number()) {
+            Some(known) => *known,
+            None => None,
+        }
     }
 
     /// What is known behind the changes of a set if the one at the place is the last of them.
