@@ -1,6 +1,6 @@
 -- Who may have made each change of a sample on the ways to all of a set, found from that set down.
-use Rattle.std.proofs.Common.{◌≡◌, ◌≢◌, ◌⊎◌, ◌∙◌, ◌<◌, ◌≤◌, ◌+◌, ◌-◌, ◌^◌, ℕ, Bool, true, false, List, length, inl, inr, refl, sym, ap, subst, arith, ⊥}
-use Rattle.std.specs.Prelude.{◌==◌, ◌&&◌, ◌||◌, nat_le}
+use Rattle.std.proofs.Common.{◌≡◌, ◌≢◌, ◌⊎◌, ◌∙◌, ◌<◌, ◌≤◌, ◌+◌, ◌-◌, ◌^◌, ℕ, Bool, true, false, List, length, inl, inr, refl, sym, ap, subst, arith}
+use Rattle.std.specs.Prelude.{◌==◌, ◌&&◌, ◌||◌, not, nat_le}
 use Rattle.std.proofs.lemmas.Bool.{cases_lt}
 use Rattle.std.proofs.lemmas.Nat.Bits.{bit_at-zero}
 use Rattle.std.proofs.Math.Pow.{pow_pos}
@@ -74,11 +74,55 @@ all_done p probed sample known goal reaching back by ended m = record {
   };
 }
 
--- ---- one set more
+-- ---- one change more
 
 split : (x a b : Bool) → x ≡ (a || b) → x ≡ true → (a ≡ true) ⊎ (b ≡ true)
 split x true b e is = inl refl
 split x false b e is = inr (sym e ∙ is)
+
+pub none_noted : (p : Plan) (probed : Probed) (sample : List SeenChange) (known : Known) (goal : Places) (reaching : Reaching) (set : Places) (m : Makers) (some : Bool) → some ≡ false → AreNoted p probed sample known goal reaching set 0 m m some
+none_noted p probed sample known goal reaching set m some none = record {
+  each = λ i l. absurd (omega (arith, l));
+  others = λ i l. refl;
+  found = λ is. absurd (never some is none);
+}
+
+is_some : (a : Bool) → not a ≡ true → a ≡ false
+is_some true e = cc
+is_some false e = refl
+
+pub one_noted : (p : Plan) (probed : Probed) (sample : List SeenChange) (known : Known) (goal : Places) (reaching : Reaching) (set : Places) (n : ℕ) (d : Drivers) (first old new : Makers) (before some : Bool)
+    → MakeNext p probed sample known goal reaching set n d → UnitesDrivers (by_at old n) d (by_at new n) → ((i : ℕ) → i ≢ n → by_at new i ≡ by_at old i) → some ≡ (before || not (is_nobody d))
+    → AreNoted p probed sample known goal reaching set n first old before → AreNoted p probed sample known goal reaching set (n + 1) first new some
+one_noted p probed sample known goal reaching set n d first old new before some next unites others so noted = record {
+  each = λ i l. by_order i (cases_lt i n) l;
+  others = λ i l. others i (λ e. absurd (omega (arith, l, e))) ∙ noted.others i (omega (arith, l));
+  found = λ is. of_some (split some before (not (is_nobody d)) so is);
+}
+  where
+    by_order : (i : ℕ) → (i < n) ⊎ (n ≤ i) → i < n + 1 → Notes p probed sample known goal reaching set i (by_at first i) (by_at new i) some
+    by_order i (inl l) m =
+        let h = noted.each i l in
+        subst (λ (x : Drivers). Notes p probed sample known goal reaching set i (by_at first i) x some) (sym (others i (λ e. absurd (omega (arith, l, e))))) (record {
+          drivers = h.drivers;
+          next = h.next;
+          unites = h.unites;
+          is_some = λ x. so ∙ or_left before (not (is_nobody d)) (h.is_some x);
+        })
+    by_order i (inr l) m =
+        let e : n ≡ i = omega (arith, l, m) in
+        subst (λ k. Notes p probed sample known goal reaching set k (by_at first k) (by_at new k) some) e (record {
+          drivers = d;
+          next = next;
+          unites = subst (λ (x : Drivers). UnitesDrivers x d (by_at new n)) (noted.others n (omega arith)) unites;
+          is_some = λ x. so ∙ or_true before (not (is_nobody d)) (ap (λ b. not b) x);
+        })
+
+    of_some : (before ≡ true) ⊎ (not (is_nobody d) ≡ true) → (i : ℕ) × (i < n + 1) × (e : Drivers) × SomeMake p probed sample known goal reaching set i e
+    of_some (inl b) = let f = noted.found b in let l = f.1 in (f.0, omega (arith, l), f.2, f.3)
+    of_some (inr b) = (n, omega arith, d, record { next = next; some = is_some (is_nobody d) b })
+
+-- ---- one set more
 
 same_set : (a b : Places) → a.bits ≡ b.bits → a ≡ b
 same_set a b e = ap (λ (n : ℕ). let r : Places = record { bits = n } in r) e

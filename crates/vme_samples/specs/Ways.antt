@@ -15,7 +15,6 @@ use Rattle.vme_standings.specs.Standings.{is_nobody}
 use Rattle.vme_standings.specs.Unions.{Unites}
 use Rattle.vme_samples.specs.declared.places.Places.{Places}
 use Rattle.vme_samples.specs.declared.samples.SeenChange.{SeenChange}
-use Rattle.vme_samples.specs.declared.ways.Ways.{Ways}
 use Rattle.vme_samples.specs.Places.{IsBefore, has_place, with, without}
 use Rattle.vme_samples.specs.Samples.{comes_next}
 
@@ -190,7 +189,7 @@ pub record AreMakers (p : Plan) (probed : Probed) (sample : List SeenChange) (kn
 -- ---- words
 
 -- that is known behind the set, and of the others what was known
-pub record Keeps (p : Plan) (probed : Probed) (set : Places) (at : Option Standings) (old new : Ways) : Type 0 where
-  pub here : Hides p probed at (hidden_behind new.known.items set)
+pub record Keeps (p : Plan) (probed : Probed) (set : Places) (at : Option Standings) (old new : Known) : Type 0 where
+  pub here : Hides p probed at (hidden_behind new set)
   pub others : (other : Places) → other.bits ≢ set.bits
-      → hidden_behind new.known.items other ≡ hidden_behind old.known.items other
+      → hidden_behind new other ≡ hidden_behind old other

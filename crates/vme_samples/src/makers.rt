@@ -1,5 +1,5 @@
 //! Who may have made each change on a way to all changes of a set.
-ghost use Rattle.std.specs.Prelude.{◌≡◌, ◌≢◌, ◌<◌, ◌≤◌, ℕ, IsTrue, length};
+ghost use Rattle.std.specs.Prelude.{◌≡◌, ◌≢◌, ◌||◌, ◌<◌, ◌≤◌, ℕ, IsTrue, length};
 ghost use Rattle.vme_samples.specs.declared.places.Places.{Places as Set};
 ghost use Rattle.vme_samples.specs.Makers.{AreNoted, UnitesDrivers, by_at};
 ghost use Rattle.vme_samples.specs.Samples.{are_changes};
@@ -26,6 +26,13 @@ fn either(a: Drivers, b: Drivers) -> Drivers
         controller: a.controller || b.controller,
         boards: a.boards.or(b.boards),
     }
+}
+
+/// Whether one of the two is so.
+fn is_either(a: bool, b: bool) -> bool
+    ensures { result ≡ (a || b) }
+{
+    a || b
 }
 
 /// Who may have made each change of a sample, by its place.
@@ -123,14 +130,14 @@ impl Ways {
             let drivers = self.makers_next(plan, probed, sample, goal, places, place);
             makers.note(place, drivers);
             let is_nobody = drivers.is_nobody();
-            is_some = is_some || !is_nobody;
+            is_some = is_either(is_some, !is_nobody);
         }
         is_some
     }
 
     /// Keeps whether all of the goal is reached from a set.
     fn set_reaching(&mut self, places: Places, is_reaching: bool)
-        requires small { places.bits < 4096 }
+        requires { places.bits < 4096 }
         ensures known { self.new.known ≡ self.old.known }
         ensures here { reaching_at self.new.reaching.items places ≡ is_reaching }
         ensures others { (other : Set) → other.bits ≢ places.bits
@@ -159,7 +166,8 @@ impl Ways {
         for back in 0..goal.number() + 1 {
             let places = Places::numbered(goal.number() - back);
             let is_some = self.note_next(plan, probed, sample, goal, places, &mut makers);
-            self.set_reaching(places, is_some || back == 0);
+            let is_reaching = is_either(is_some, back == 0);
+            self.set_reaching(places, is_reaching);
         }
         makers
     }

@@ -130,8 +130,9 @@ impl Ways {
 
     /// Keeps what is known behind a set of the changes, with the edges that no probe sees.
     fn keep(&mut self, plan: &Plan, probed: &Probed, places: Places, known: Option<Standings>)
-        requires near { places.bits < 4096 }
-        ensures kept { Keeps plan.now probed.now places known self.old self.new }
+        requires { places.bits < 4096 }
+        ensures { Keeps plan.now probed.now places known self.old.known.items
+            self.new.known.items }
     {
         self.known[places.number()] = match known {
             None => None,
@@ -144,7 +145,7 @@ impl Ways {
     pub fn fill(&mut self, plan: &Plan, probed: &Probed, start: &Standings, sample: &[SeenChange])
         requires few { length sample.now ≤ 12 }
         requires changes { IsTrue (are_changes sample.now) }
-        ensures ways { AreWays plan.now probed.now start.now sample.now self.new.known.items }
+        ensures { AreWays plan.now probed.now start.now sample.now self.new.known.items }
     {
         self.keep(plan, probed, Places::NONE, Some(*start));
         for number in 1..Places::first(sample.len()).number() + 1 {
@@ -171,7 +172,7 @@ impl Ways {
     /// Of the sets behind which something is known those with the most changes, and of these the
     /// one whose list of places is least.
     pub fn furthest(&self, count: usize) -> Places
-        requires few { count ≤ 12 }
+        requires { count ≤ 12 }
         ensures { IsFurthest self.now.known.items count result }
     {
         let mut furthest = Places::NONE;
