@@ -1,7 +1,7 @@
 -- What is known and written, one thing that was said after the other.
-use Rattle.std.proofs.Common.{◌≡◌, ◌∙◌, ◌++◌, ◌∷◌, [], ℕ, Bool, true, false, List, Option, Some, None, Result, Ok, Err, is_some, length, refl, sym, ap, subst, inl, inr, append-nil, unwrap_or}
+use Rattle.std.proofs.Common.{◌≡◌, ◌∙◌, ◌++◌, ◌∷◌, [], ℕ, Bool, true, false, List, Option, Some, None, Result, Ok, Err, is_some, length, refl, sym, ap, subst, inl, inr, append-nil, unwrap_or, arith}
 use Rattle.std.specs.Io.KnownBytes.{Appends, Keeps}
-use Rattle.std.proofs.KnownBytes.{Appends-trans, Appends-kept}
+use Rattle.std.proofs.KnownBytes.{Appends-trans, Appends-kept, Appends-nil, Keeps-refl}
 use Rattle.vme_model.specs.declared.signals.Version.{Version}
 use Rattle.vme_model.specs.Plan.{Plan}
 use Rattle.vme_trace.specs.declared.Fault.{Fault}
@@ -27,7 +27,7 @@ use Rattle.vme_probe.specs.declared.judging.Known.{Known}
 use Rattle.vme_probe.specs.Knowing.{Begins, Begun, CannotBegin, Judged, Stops, StopsAt, StopsNext, TakesNext, Waits, no_beginning, seen_at}
 use Rattle.vme_probe.specs.Lines.{change_line}
 use Rattle.vme_probe.proofs.Said.{all_read, said_stands}
-use Rattle.vme_probe.specs.Steps.{ChangeTaken, EntryTaken, HeadTaken, IsOfChange, IsOfCompleted, IsOfEntry, IsOfSample, NextTaken, SeenTaken, Stands}
+use Rattle.vme_probe.specs.Steps.{ChangeTaken, EntryTaken, HeadTaken, IsOfChange, IsOfCompleted, IsOfEntry, IsOfSample, NextTaken, Pushed, SampleTaken, SeenTaken, Stands}
 
 none_known : (k : Known) → ◌≡◌ {A = Option Known} None (Some k) → ⊥
 none_known k h = cc
@@ -61,6 +61,39 @@ no_change p v skew said c waits text may h = false_true (ap (λ (o : Option ℕ)
 
 both_ways : (b : Bool) → b ≡ true → b ≡ false → ⊥
 both_ways b on off = false_true (sym off ∙ on)
+
+-- it belongs to the sample that waits
+pub joined_taken : (p : Plan) (skew : ℕ) (waiting : List SeenChange) (s : SeenChange) (known : Known) (waits : List SeenChange) (from : Option (List ℕ)) (r : Result (Option Status) ProbeFault) → joins skew waiting s.moment ≡ true → Pushed s waiting waits r → SeenTaken p skew waiting s known known waits from from r
+joined_taken p skew waiting s known waits from (Ok None) on h = (
+  [],
+  λ before. record {
+    joined = λ _. (h.0, h.1, refl, append-nil before);
+    complete = λ off. absurd (both_ways (joins skew waiting s.moment) on off);
+  },
+  Appends-nil from,
+)
+joined_taken p skew waiting s known waits from (Ok (Some status)) on h = absurd h
+joined_taken p skew waiting s known waits from (Err fault.TooManyOrders) on h = (on, h, Keeps-refl from)
+joined_taken p skew waiting s known waits from (Err (fault.Capture f)) on h = absurd h
+joined_taken p skew waiting s known waits from (Err (fault.Engine f)) on h = absurd h
+
+none_full : ◌≡◌ {A = ℕ} 0 12 → ⊥
+none_full h = omega (arith, h)
+
+-- the sample that waited was complete, and was judged
+pub completed_taken : (p : Plan) (skew : ℕ) (waiting : List SeenChange) (s : SeenChange) (old new : Known) (none waits : List SeenChange) (from to : Option (List ℕ)) (r : Result (Option Status) ProbeFault) → joins skew waiting s.moment ≡ false → none ≡ [] → SampleTaken p waiting old new from to (Ok None) → Pushed s none waits r → SeenTaken p skew waiting s old new waits from to r
+completed_taken p skew waiting s old new none waits from to (Ok None) off is t h = (
+  t.0,
+  λ before. record {
+    joined = λ on. absurd (both_ways (joins skew waiting s.moment) on off);
+    complete = λ _. (t.0, t.1, h.1 ∙ ap (λ (l : List SeenChange). l ++ s ∷ []) is, refl);
+  },
+  t.2,
+)
+completed_taken p skew waiting s old new none waits from to (Ok (Some status)) off is t h = absurd h
+completed_taken p skew waiting s old new none waits from to (Err fault.TooManyOrders) off is t h = absurd (none_full (sym (ap (λ (l : List SeenChange). length l) is) ∙ h))
+completed_taken p skew waiting s old new none waits from to (Err (fault.Capture f)) off is t h = absurd h
+completed_taken p skew waiting s old new none waits from to (Err (fault.Engine f)) off is t h = absurd h
 
 -- what its lines say, whatever was written before
 next_written : (p : Plan) (skew : Option ℕ) (waiting : List SeenChange) (s : SeenChange) (old new : Known) (waits : List SeenChange) (from to : Option (List ℕ)) → NextTaken p skew waiting s old new waits from to (Ok None)

@@ -1,5 +1,5 @@
 -- What the parts of a judgement do: a change, the end, and what an entry says.
-use Rattle.std.specs.Prelude.{◌≡◌, ◌⊎◌, ◌++◌, ◌∷◌, [], ℕ, true, false, List, Option, Some, None, length, Result, Ok, Err}
+use Rattle.std.specs.Prelude.{◌≡◌, ◌⊎◌, ◌<◌, ◌++◌, ◌∷◌, [], ℕ, true, false, List, Option, Some, None, length, Result, Ok, Err}
 use Rattle.std.specs.Io.KnownBytes.{Appends, Keeps}
 use Rattle.vme_model.specs.declared.signals.Version.{Version}
 use Rattle.vme_model.specs.Plan.{Plan}
@@ -86,6 +86,13 @@ EndWritten p k probes from to (Ok status) =
     (text : List ℕ) × Ends p k probes text × Appends from to text × (status ≡ Done)
 EndWritten p k probes from to (Err f) =
     (f ≡ Write) × (text : List ℕ) × Ends p k probes text × AppendsFront from to text
+
+-- a change was taken into the sample, unless that is full
+abbrev pub Pushed :
+    SeenChange → List SeenChange → List SeenChange → Result (Option Status) ProbeFault → Type 0
+Pushed s old new (Ok None) = (length old < 12) × (new ≡ old ++ s ∷ [])
+Pushed s old new (Err fault.TooManyOrders) = length old ≡ 12
+Pushed s old new _ = ⊥
 
 -- what is to be written of the sample that a change completes
 abbrev pub IsOfCompleted : Plan → ℕ → List SeenChange → SeenChange → Known → List ℕ → Type 0

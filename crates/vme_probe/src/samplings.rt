@@ -2,7 +2,7 @@
 ghost use Rattle.std.specs.Prelude.{◌≡◌, [], ℕ, IfErr, IfOk, IsTrue, Some};
 ghost use Rattle.vme_captures.specs.Signals.{is_change};
 ghost use Rattle.vme_probe.specs.Reads.{skew_of, waiting_in};
-ghost use Rattle.vme_probe.specs.Steps.{SampleTaken, SeenTaken};
+ghost use Rattle.vme_probe.specs.Steps.{Pushed, SampleTaken, SeenTaken};
 
 use crate::judging::Known;
 use crate::probes::ProbeFault;
@@ -59,6 +59,23 @@ impl Sampling {
         known.take_sample(plan, self.sample.changes(), &mut self.ways, out)
     }
 
+    /// Takes one change more into the sample.
+    ///
+    /// # Errors
+    /// F5 if it is the 13th.
+    fn push(&mut self, seen: SeenChange) -> Result<Option<Status>, ProbeFault>
+        requires { IsTrue (is_change seen.change) }
+        ensures skew { self.new.skew ≡ self.old.skew }
+        ensures pushed { Pushed seen self.old.sample.changes.items self.new.sample.changes.items
+            result }
+    {
+        if self.sample.push(seen) {
+            Ok(None)
+        } else {
+            Err(ProbeFault::TooManyOrders)
+        }
+    }
+
     /// Takes in the next change. If it is not of the sample, that one is complete and is judged.
     ///
     /// # Errors
@@ -77,17 +94,14 @@ impl Sampling {
             known.old known.new self.new.sample.changes.items
             (W.contents out.old) (W.contents out.new) result }
     {
-        if !self.sample.joins(self.skew, seen.moment) {
-            if let Some(status) = self.judge(plan, known, out)? {
-                return Ok(Some(status));
-            }
-            self.sample.clear();
+        if self.sample.joins(self.skew, seen.moment) {
+            return self.push(seen);
         }
-        if self.sample.push(seen) {
-            Ok(None)
-        } else {
-            Err(ProbeFault::TooManyOrders)
+        if let Some(status) = self.judge(plan, known, out)? {
+            return Ok(Some(status));
         }
+        self.sample.clear();
+        self.push(seen)
     }
 }
 

@@ -112,6 +112,7 @@ impl Sample {
         requires { IsTrue (is_change seen.change) }
         ensures pushed { result ≡ true
             → self.new.changes.items ≡ self.old.changes.items ++ seen ∷ [] }
+        ensures few { result ≡ true → length self.old.changes.items < 12 }
         ensures full { result ≡ false
             → (length self.old.changes.items ≡ 12) × (self.new ≡ self.old) }
     {
