@@ -214,7 +214,8 @@ fn slack_option<'a>(alloc: Global) -> Arg<'a>
 fn skew_option<'a>(alloc: Global) -> Arg<'a>
     ensures { rule_of result ≡ said.skew }
 {
-    let help = "Changes at most S moments behind the one before have no order, but those of one line";
+    let help =
+        "Changes at most S moments behind the one before have no order, but those of one line";
     whole_option(alloc, "skew", "S", 0, help)
 }
 

@@ -42,7 +42,7 @@ refused_more p v hidden sample set n s there here so_far ours first old new at i
     here,
     before.refuses,
     subst (λ (o : Option SeenChange). Refuses p v hidden o (comes_next sample set n) one.0 here) (sym at)
-    (subst (λ b. Refuses p v hidden (Some s) b one.0 here) is one.2),
+        (subst (λ b. Refuses p v hidden (Some s) b one.0 here) is one.2),
     refl,
     so,
   );

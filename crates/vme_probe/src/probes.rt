@@ -129,7 +129,11 @@ impl Judging {
     ///
     /// # Errors
     /// X8 if that failed; a prefix of the line was written then.
-    fn take_moment<W: Write>(&mut self, plan: &Plan, out: &mut W) -> Result<Option<Status>, ProbeFault>
+    fn take_moment<W: Write>(
+        &mut self,
+        plan: &Plan,
+        out: &mut W,
+    ) -> Result<Option<Status>, ProbeFault>
         ensures reader { self.new.reader ≡ self.old.reader }
         ensures skew { skew_of self.new.sampling ≡ skew_of self.old.sampling }
         ensures taken { (moment : ℕ) (version : VersionValue) (bytes : List ℕ)

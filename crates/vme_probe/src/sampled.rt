@@ -28,7 +28,10 @@ fn push_line(report: &mut Report, is_there: bool, seen: &SeenChange, drivers: Dr
     ensures len { array_vec_len report.new ≤ array_vec_len report.old + 160 }
 {
     if is_there {
-        push(report, change_line(seen.moment, &seen.change, drivers).as_slice());
+        push(
+            report,
+            change_line(seen.moment, &seen.change, drivers).as_slice(),
+        );
     }
 }
 
@@ -120,8 +123,7 @@ impl Known {
         let Some(before) = ways.hidden_behind(furthest) else {
             return report;
         };
-        let is_ours =
-            push_refused_next(&mut report, plan, &self.probed, &before, sample, furthest);
+        let is_ours = push_refused_next(&mut report, plan, &self.probed, &before, sample, furthest);
         push_impossible(&mut report, sample[0].moment, is_ours);
         report
     }

@@ -109,10 +109,7 @@ impl Sampling {
 ///
 /// # Errors
 /// F3.
-pub(crate) fn sampling_of(
-    alloc: Global,
-    skew: Option<u64>,
-) -> Result<Option<Sampling>, EngineFault>
+pub(crate) fn sampling_of(alloc: Global, skew: Option<u64>) -> Result<Option<Sampling>, EngineFault>
     ensures skew { IfOk result (λ s. skew_of s ≡ skew) }
     ensures empty { IfOk result (λ s. waiting_in s ≡ []) }
     ensures fault { IfErr result (λ fault. fault ≡ EngineFault.NoMemory) }
