@@ -375,8 +375,8 @@ made it, c or a slot. At the end of the capture come these lines:
   shown V by D ..            what AS* fell with, and who may drive it; none while AS* is high
   BR3 low by D ..            who may drive a request line that is low; so for IRQ1 to IRQ7
   may come CHANGE by D ..    a change that may come next, and who may make it
-If no such bus can show a change, these lines come in their place, and nothing is read after it; of a
-sample, the changes that could be made come first:
+If no such bus can show a change, these lines come in their place, and nothing is read after it;
+of a sample, the changes that could be made come first:
   @N CHANGE by none
       D RULE CONDITION       for each driver of that line or pin: what stood in its way
   impossible @N              or `impossible @N by our rules alone` if what stood in the way of one
