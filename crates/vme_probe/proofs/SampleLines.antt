@@ -1,5 +1,5 @@
 -- What is written of a sample: `sampled`.
-use Rattle.std.proofs.Common.{◌≡◌, ◌⊎◌, ◌∙◌, ◌<◌, ◌≤◌, ◌+◌, ◌++◌, [], ℕ, zero, suc, Bool, true, false, List, Option, Some, None, get_or, length, inl, inr, refl, sym, ap, subst, append-nil, append_assoc, arith, add-one}
+use Rattle.std.proofs.Common.{◌≡◌, ◌⊎◌, ◌∙◌, ◌<◌, ◌≤◌, ◌+◌, ◌-◌, ◌^◌, ◌++◌, ◌∷◌, [], ℕ, zero, suc, Bool, true, false, List, Option, Some, None, Result, Ok, Err, get_or, length, inl, inr, refl, sym, ap, subst, append-nil, append_assoc, arith, add-one}
 use Rattle.std.specs.Prelude.{◌||◌}
 use Rattle.std.specs.List.{slice_get}
 use Rattle.std.proofs.lemmas.Bool.{cases_lt}
@@ -14,8 +14,13 @@ use Rattle.vme_samples.specs.declared.samples.SeenChange.{SeenChange}
 use Rattle.vme_samples.specs.Makers.{by_at}
 use Rattle.vme_samples.specs.Places.{has_place}
 use Rattle.vme_samples.specs.Samples.{comes_next}
-use Rattle.vme_samples.specs.Ways.{AreWays, IsFurthest, Known as Ways, hidden_behind}
-use Rattle.vme_probe.specs.Sampled.{AddsRefused, Refuses, RefusesFirst, placed_line, placed_lines}
+use Rattle.vme_samples.specs.Ways.{AreWays, Gathered, IsFurthest, Known as Ways, hidden_behind}
+use Rattle.vme_trace.specs.declared.Fault.{Fault}
+use Rattle.vme_reading.specs.declared.Status.{Status}
+use Rattle.vme_probe.specs.declared.judging.Known.{Known}
+use Rattle.vme_probe.specs.Lines.{change_line}
+use Rattle.vme_probe.specs.Sampled.{AddsRefused, Refuses, RefusesFirst, all_places, placed_line, placed_lines}
+use Rattle.vme_probe.specs.Steps.{ChangeTaken, IsOfChange, IsOfSample, SampleTaken, SeveralTaken}
 
 -- the line of one change more
 pub placed_more : (sample : List SeenChange) (set : Places) (makers : Makers) (n : ℕ) (s : SeenChange) (there : Bool) (d : Drivers) (old new : List ℕ) → slice_get sample n ≡ Some s → there ≡ has_place set n → d ≡ by_at makers n → old ≡ placed_lines sample set makers n → new ≡ old ++ placed_line (Some s) there d → new ≡ placed_lines sample set makers (n + 1)
@@ -60,3 +65,41 @@ furthest_known p probed start sample known set ways f = by_order (cases_lt 0 set
     by_order (inr l) =
         let b = ways.begins in
         (b.0, ap (hidden_behind known) (same_set set (record { bits = 0 }) (omega (arith, l))) ∙ b.2)
+
+-- ---- a sample that was judged
+
+-- the first places are all of them
+pub all_first : (sample : List SeenChange) (set : Places) → set.bits ≡ 2 ^ length sample - 1 → set ≡ all_places sample
+all_first sample set e = ap (λ (n : ℕ). let r : Places = record { bits = n } in r) e
+
+-- what is known behind them
+pub gathered_all : (p : Plan) (probed : Probed) (sample : List SeenChange) (known : Ways) (set : Places) (o r : Option Standings) → set.bits ≡ 2 ^ length sample - 1 → o ≡ r → Gathered p probed sample known set (length sample) o → Gathered p probed sample known (all_places sample) (length sample) r
+gathered_all p probed sample known set o r e is h =
+    subst (λ (x : Option Standings). Gathered p probed sample known (all_places sample) (length sample) x) is
+    (subst (λ (x : Places). Gathered p probed sample known x (length sample) o) (all_first sample set e) h)
+
+-- a list of one
+pub single : (sample : List SeenChange) (d : SeenChange) → 1 ≤ length sample → length sample < 2 → sample ≡ get_or sample 0 d ∷ []
+single [] d some few = absurd (omega (arith, some))
+single (s ∷ []) d some few = refl
+single (s ∷ t ∷ others) d some few = absurd (omega (arith, few))
+
+-- of one change the sample is that change
+pub one_taken : (p : Plan) (sample : List SeenChange) (s : SeenChange) (old new : Known) (from to : Option (List ℕ)) (r : Result (Option Status) Fault) → sample ≡ s ∷ [] → ChangeTaken p s.moment s.change old new from to r → SampleTaken p sample old new from to r
+one_taken p sample s old new from to r is h = subst (λ (l : List SeenChange). SampleTaken p l old new from to r) (sym is) (by r h)
+  where
+    of_one : (text : List ℕ) → IsOfChange p old s.moment s.change text → IsOfSample p old (s ∷ []) text
+    of_one text (inl x) = inl (x.0, (x.1, x.2, x.3))
+    of_one text (inr x) = inr x
+
+    by : (r : Result (Option Status) Fault) → ChangeTaken p s.moment s.change old new from to r → SampleTaken p (s ∷ []) old new from to r
+    by (Ok None) x = (change_line s.moment s.change x.0, (x.0, x.1, refl), x.2)
+    by (Ok (Some status)) x = x
+    by (Err f) x = (x.0, x.1, of_one x.1 x.2, x.3)
+
+pub several_taken : (p : Plan) (sample : List SeenChange) (old new : Known) (from to : Option (List ℕ)) (r : Result (Option Status) Fault) → 2 ≤ length sample → SeveralTaken p sample old new from to r → SampleTaken p sample old new from to r
+several_taken p [] old new from to r some h = absurd (omega (arith, some))
+several_taken p (s ∷ []) old new from to r some h = absurd (omega (arith, some))
+several_taken p (s ∷ t ∷ others) old new from to (Ok None) some h = h
+several_taken p (s ∷ t ∷ others) old new from to (Ok (Some status)) some h = h
+several_taken p (s ∷ t ∷ others) old new from to (Err f) some h = h
