@@ -1,5 +1,5 @@
 -- What is known and written, one thing that was said after the other.
-use Rattle.std.proofs.Common.{◌≡◌, ◌∙◌, ◌++◌, ◌∷◌, [], ℕ, Bool, true, false, List, Option, Some, None, Result, Ok, Err, is_some, length, refl, sym, ap, subst, inl, inr, append-nil, unwrap_or, arith}
+use Rattle.std.proofs.Common.{◌≡◌, ◌⊎◌, ◌∙◌, ◌++◌, ◌∷◌, [], ℕ, Bool, true, false, List, Option, Some, None, Result, Ok, Err, is_some, length, refl, sym, ap, subst, inl, inr, append-nil, unwrap_or, arith}
 use Rattle.std.specs.Io.KnownBytes.{Appends, Keeps}
 use Rattle.std.proofs.KnownBytes.{Appends-trans, Appends-kept, Appends-nil, Keeps-refl}
 use Rattle.vme_model.specs.declared.signals.Version.{Version}
@@ -26,6 +26,8 @@ use Rattle.vme_probe.specs.declared.probes.ProbeFault.TheVariants as fault
 use Rattle.vme_probe.specs.declared.judging.Known.{Known}
 use Rattle.vme_probe.specs.Knowing.{Begins, Begun, CannotBegin, Judged, Stops, StopsAt, StopsNext, TakesNext, Waits, no_beginning, seen_at}
 use Rattle.vme_probe.specs.Lines.{change_line}
+use Rattle.vme_probe.specs.declared.samplings.Sampling.{Sampling}
+use Rattle.vme_probe.specs.Reads.{waiting_in}
 use Rattle.vme_probe.proofs.Said.{all_read, said_stands}
 use Rattle.vme_probe.specs.Steps.{ChangeTaken, EntryTaken, HeadTaken, IsOfChange, IsOfCompleted, IsOfEntry, IsOfSample, NextTaken, Pushed, SampleTaken, SeenTaken, Stands}
 
@@ -263,3 +265,9 @@ change_known p skew v r bytes said c known waits text read named judged none =
     no_change p v skew said c waits text
     (said_stands p said (entry.Change c) (all_read p r bytes (entry.Change c ∷ said) v read named).0)
     (subst (λ (k : Option Known). Judged p v skew said k waits text) none judged)
+
+-- the same is known, and as much waits
+pub stands_on : (p : Plan) (skew : Option ℕ) (v : Version) (said : List Entry) (known : Option Known) (old new : Option Sampling) (from to : Option (List ℕ)) → known ≡ None → new ≡ old → Stands p skew v said known (waiting_in old) from to → Stands p skew v said None (waiting_in new) from to
+stands_on p skew v said known old new from to none same s =
+    subst (λ (x : Option Sampling). Stands p skew v said None (waiting_in x) from to) (sym same)
+    (subst (λ (k : Option Known). Stands p skew v said k (waiting_in old) from to) none s)

@@ -271,7 +271,8 @@ impl Judging {
     /// X8 if that failed; a prefix of the text was written then.
     fn write_end<W: Write>(&mut self, plan: &Plan, out: &mut W) -> Result<Status, Fault>
         requires { IsTrue (are_slots self.old.reader.probes.items) }
-        ensures { (skew : Option ℕ) (version : VersionValue) (bytes : List ℕ)
+        ensures reader { self.new.reader ≡ self.old.reader }
+        ensures written { (skew : Option ℕ) (version : VersionValue) (bytes : List ℕ)
             (said : List EntryValue) (from : Option (List ℕ))
             → self.old.reader.version ≡ Some version
             → HasRead plan.now self.old.reader bytes said
@@ -314,7 +315,8 @@ impl Judging {
     /// The faults of the capture; X8.
     fn finish<W: Write>(&mut self, plan: &Plan, out: &mut W) -> Result<Status, ProbeFault>
         requires { ReadsSome plan.now self.old }
-        ensures { (skew : Option ℕ) (bytes : List ℕ) (from : Option (List ℕ))
+        ensures reader { self.new.reader ≡ self.old.reader }
+        ensures taken { (skew : Option ℕ) (bytes : List ℕ) (from : Option (List ℕ))
             → IsAt plan.now skew self.old bytes from (W.contents out.old)
             → EndTaken plan.now skew bytes from (W.contents out.new) result }
     {

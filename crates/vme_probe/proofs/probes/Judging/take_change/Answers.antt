@@ -26,7 +26,7 @@ returns-in_err-status-clause-taken g c = λ version bytes said from named read s
     let at = c.unwrap_or.ensures ∙ ap (λ (o : Option ℕ). unwrap_or o 0) (c.moment.ensures ∙ read.keeps.last) in
     rw (e.1, e.2)
     (change_fails c.args.plan.now skew version said c.args.change.now c.in-Some.known waits from (g.W.Write.contents c.args.out.now) (g.W.Write.contents c.take_seen.new.out) stands
-    c.take_seen.new.known _ (waiting_in c.take_seen.new.sampling) _ (seen _ _ c.args.change.now at) c.in_err-status.field-0.0 c.in_err-status.ensures.taken)
+    c.take_seen.new.known c.args.self.now.known (waiting_in c.take_seen.new.sampling) _ (seen _ _ c.args.change.now at) c.in_err-status.field-0.0 c.in_err-status.ensures.taken)
 
 pub returns-clause-taken : goal.returns-clause-taken
 returns-clause-taken g c = λ version bytes said from named read s.

@@ -24,13 +24,13 @@ returns-in_err-finish-clause-taken g c = λ skew from out_from h.
     rw (e.1, e.2)
     (ended c.args.plan.now skew from (g.R.Read.remaining c.read_piece.new.input) out_from (g.W.Write.contents c.finish.new.out) h.bytes
     (nothing_taken from (g.R.Read.remaining c.args.capture.now) (g.R.Read.remaining c.read_piece.new.input) h.bytes c.read_piece.new.buffer c.in-Ok.count c.if-count-eq0.true h.consumed c.in-Ok.ensures.ok.1)
-    (c.in-Ok.ensures.ok.2 c.if-count-eq0.true) (Err c.in_err-finish.field-0.0) (c.in_err-finish.ensures skew h.bytes out_from h.at))
+    (c.in-Ok.ensures.ok.2 c.if-count-eq0.true) (Err c.in_err-finish.field-0.0) (c.in_err-finish.ensures.taken skew h.bytes out_from h.at))
 
 pub returns-then-count-eq0-clause-taken : goal.returns-then-count-eq0-clause-taken
 returns-then-count-eq0-clause-taken g c = λ skew from out_from h.
     ended c.args.plan.now skew from (g.R.Read.remaining c.read_piece.new.input) out_from (g.W.Write.contents c.finish.new.out) h.bytes
     (nothing_taken from (g.R.Read.remaining c.args.capture.now) (g.R.Read.remaining c.read_piece.new.input) h.bytes c.read_piece.new.buffer c.in-Ok.count c.if-count-eq0.true h.consumed c.in-Ok.ensures.ok.1)
-    (c.in-Ok.ensures.ok.2 c.if-count-eq0.true) (Ok c.in_ok-finish.field-0) (c.in_ok-finish.ensures skew h.bytes out_from h.at)
+    (c.in-Ok.ensures.ok.2 c.if-count-eq0.true) (Ok c.in_ok-finish.field-0) (c.in_ok-finish.ensures.taken skew h.bytes out_from h.at)
 
 pub returns-in_err-status-clause-taken : goal.returns-in_err-status-clause-taken
 returns-in_err-status-clause-taken g c = λ skew from out_from h.
