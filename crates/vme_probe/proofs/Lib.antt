@@ -32,5 +32,3 @@ pub mod Whole
 pub mod Pieces
 -- what is written of a sample: `sampled`
 pub mod SampleLines
--- the text of a scenario is lent to the engine: `probes`
-pub mod Lent

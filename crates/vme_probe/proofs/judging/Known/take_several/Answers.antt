@@ -49,15 +49,18 @@ returns-in_err-put g c =
     rw (e.1, e.2) (
       c.in_err-put.ensures.fault,
       lines (all_places c.args.sample.now),
-      inl (known, record {
-        ways = c.fill.new.self.known.items;
-        are_ways = c.fill.ensures;
-        behind = gathered_all c.args.plan.now c.args.self.now.probed c.args.sample.now c.fill.new.self.known.items c.first-all.result c.behind.result (Some c.in-Some.standings) c.first-all.ensures c.in-Some.is c.behind.ensures;
-        makers = c.makers-makers.result;
-        are_makers = subst (λ (set : Places). AreMakers c.args.plan.now c.args.self.now.probed c.args.sample.now c.fill.new.self.known.items set (by_at c.makers-makers.result)) all c.makers-makers.ensures.makers;
-        is = refl;
-        probed = refl;
-        changes = refl;
-      }),
+      inl (
+        known,
+        record {
+          ways = c.fill.new.self.known.items;
+          are_ways = c.fill.ensures;
+          behind = gathered_all c.args.plan.now c.args.self.now.probed c.args.sample.now c.fill.new.self.known.items c.first-all.result c.behind.result (Some c.in-Some.standings) c.first-all.ensures c.in-Some.is c.behind.ensures;
+          makers = c.makers-makers.result;
+          are_makers = subst (λ (set : Places). AreMakers c.args.plan.now c.args.self.now.probed c.args.sample.now c.fill.new.self.known.items set (by_at c.makers-makers.result)) all c.makers-makers.ensures.makers;
+          is = refl;
+          probed = refl;
+          changes = refl;
+        },
+      ),
       subst (λ (l : List ℕ). AppendsFront (g.W.Write.contents c.args.out.now) (g.W.Write.contents c.put.new.out) l) (c.as_slice-2.ensures.value ∙ c.push_placed.ensures.items ∙ ap lines all) c.in_err-put.ensures.front,
     )
