@@ -18,7 +18,7 @@ use Rattle.vme_explain.proofs.Witnessed.{cycles_within}
 use Rattle.vme_following.specs.declared.following.Following.{Following}
 use Rattle.vme_reading.specs.Outcomes.{bench}
 use Rattle.vme_following.specs.Followed.{IsAfter}
-use Rattle.vme_following.proofs.FollowedEdges.{edges_on, kept_plan}
+use Rattle.vme_reading.proofs.KeptEdges.{edges_on, kept_plan}
 
 module _ (p : Plan) (v : Version) (es : List Edge) (f : Following) (is : IsAfter p v es f) where
   pub edges_are : edges_in (numbered (bench p v) es) ≡ f.bus.history

@@ -13,7 +13,7 @@ use Rattle.vme_model.specs.Numbered.{Numbered, numbered, numbered_on, numbered_w
 use Rattle.vme_trace.specs.Writing.{AppendsFront}
 use Rattle.vme_trace.proofs.WrittenLines.{Wrote, wrote_all, wrote_front}
 use Rattle.vme_reading.specs.Outcomes.{bench}
-use Rattle.vme_following.proofs.FollowedEdges.{kept_plan, next_list, numbered_append}
+use Rattle.vme_reading.proofs.KeptEdges.{kept_plan, next_list, numbered_append}
 use Rattle.vme_reading.proofs.WrittenLines.{kept_append}
 use Rattle.vme_cycles.specs.Transactions.{ended_line, line_at, lines_on, refused_text}
 use Rattle.vme_cycles.specs.Outcomes.{lines_by}

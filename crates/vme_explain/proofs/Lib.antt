@@ -24,3 +24,5 @@ pub mod Listed
 pub mod Written
 -- `stands`: the whole block is what is printed about the bus and of the drivers
 pub mod Block
+-- `step_marked`: an edge that is accepted is noted
+pub mod MarkedSteps

@@ -1,78 +1,19 @@
 -- A trace that is followed edge by edge.
-use Rattle.std.proofs.Common.{◌≡◌, ℕ, ◌+◌, ◌<◌, List, [], ◌∷◌, ◌++◌, length, Bool, true, false, Option, Result, Ok, Err, OnErr, is_ok, get_or, take, if◌then◌else◌, refl, sym, ◌∙◌, ap, subst, arith, append_assoc}
+use Rattle.std.proofs.Common.{◌≡◌, ℕ, ◌+◌, List, [], ◌∷◌, ◌++◌, length, false, Result, Ok, Err, OnErr, is_ok, refl, sym, ◌∙◌, ap, subst, arith}
 use Rattle.std.proofs.Math.ListN.{length-append}
-use Rattle.std.proofs.lemmas.List.{take_more}
-use Rattle.vme_model.specs.declared.deliveries.Delivery.{Delivery}
-use Rattle.vme_model.specs.declared.signals.Cycle.{Cycle}
 use Rattle.vme_model.specs.declared.signals.Edge.{Edge}
 use Rattle.vme_model.specs.declared.signals.Version.{Version}
-use Rattle.vme_model.specs.declared.signals.Wire.{Wire}
-use Rattle.vme_model.specs.declared.signals.Wire.TheVariants.{Dtack}
 use Rattle.vme_model.specs.Plan.{Plan}
-use Rattle.vme_model.specs.History.{shown}
-use Rattle.vme_model.specs.Verdict.{State, Judgement, verdict, made, after, kept}
-use Rattle.vme_model.specs.Deliveries.{with_delivery}
-use Rattle.vme_model.specs.Numbered.{Numbered, edges_in, numbered_with, numbered_on, numbered}
+use Rattle.vme_model.specs.Verdict.{State, after, kept}
+use Rattle.vme_model.specs.Numbered.{Numbered, edges_in, numbered_with, numbered}
 use Rattle.vme_explain.specs.declared.marks.Marks.{Marks}
 use Rattle.vme_explain.specs.Marked.{IsMarksOf}
 use Rattle.vme_explain.specs.Traced.{OfTrace}
 use Rattle.vme_following.specs.declared.following.Following.{Following}
 use Rattle.vme_reading.specs.Outcomes.{bench}
 use Rattle.vme_following.specs.Followed.{IsAfter, IsOn, OfAfter, counted, printed_behind}
+use Rattle.vme_reading.proofs.KeptEdges.{edges_on, kept_plan, numbered_append}
 use Rattle.vme_reading.proofs.WrittenLines.{kept_append}
-
--- ---- what stays, and what the numbered edges are
-
-plan_by : (t : Bool) (b : State) (e : Edge) → (if t then made b e else b).plan ≡ b.plan
-plan_by true b e = refl
-plan_by false b e = refl
-
-pub kept_plan : (b : State) (es : List Edge) → (kept b es).plan ≡ b.plan
-kept_plan b [] = refl
-kept_plan b (e ∷ es) = kept_plan (after b e) es ∙ plan_by (is_ok (verdict b e)) b e
-
-edges_by : (t : Bool) (b : State) (n : ℕ) (e : Edge) (k : Numbered) → edges_in k ≡ b.history → edges_in (if t then (n, e) ∷ k else k) ≡ (if t then made b e else b).history
-edges_by true b n e k is = ap (λ h. e ∷ h) is
-edges_by false b n e k is = is
-
-pub edges_on : (b : State) (n : ℕ) (k : Numbered) (es : List Edge) → edges_in k ≡ b.history → edges_in (numbered_on b n k es) ≡ (kept b es).history
-edges_on b n k [] is = is
-edges_on b n k (e ∷ es) is = edges_on (after b e) (n + 1) (numbered_with b (n + 1) e k) es (edges_by (is_ok (verdict b e)) b (n + 1) e k is)
-
-pub numbered_append : (b : State) (n : ℕ) (k : Numbered) (es fs : List Edge) → numbered_on b n k (es ++ fs) ≡ numbered_on (kept b es) (n + length es) (numbered_on b n k es) fs
-numbered_append b n k [] fs = ap (λ m. numbered_on b m k fs) (omega arith)
-numbered_append b n k (e ∷ es) fs =
-    numbered_append (after b e) (n + 1) (numbered_with b (n + 1) e k) es fs
-    ∙ ap (λ m. numbered_on (kept (after b e) es) m (numbered_on (after b e) (n + 1) (numbered_with b (n + 1) e k) es) fs) (omega arith)
-
--- ---- one edge
-
-pub ok_with : (j : Judgement) (d : Option Delivery) → is_ok (with_delivery j d) ≡ is_ok j
-ok_with (Ok u) d = refl
-ok_with (Err r) d = refl
-
-with_by : (t : Bool) (n : ℕ) (e : Edge) (k : Numbered) → t ≡ true → (if t then (n, e) ∷ k else k) ≡ (n, e) ∷ k
-with_by t n e k is = rw is refl
-
-made_by : (t : Bool) (b : State) (e : Edge) → t ≡ true → (if t then made b e else b) ≡ made b e
-made_by t b e is = rw is refl
-
--- an edge of DTACK* leaves what is shown
-shown_stays : (p : Plan) (h : List Edge) (e : Edge) → e.wire ≡ Dtack → shown p (e ∷ h) ≡ shown p h
-shown_stays p h e is = subst (λ (w : Wire). shown p ((record e { wire = w }) ∷ h) ≡ shown p h) (sym is) refl
-
--- an accepted edge was noted, once it was made
-pub noted : (b now : State) (n : ℕ) (e : Edge) (old new : Marks) (v : Option Cycle) → is_ok (verdict b e) ≡ true → now ≡ after b e → (e.wire ≡ Dtack → v ≡ shown now.plan now.history)
-    → ((p : Plan) (k : Numbered) → IsMarksOf p k old → (e.wire ≡ Dtack → v ≡ shown p (edges_in k)) → IsMarksOf p ((n, e) ∷ k) new)
-    → OfTrace b old (λ k. IsMarksOf b.plan (numbered_with b n e k) new)
-noted b now n e old new v accepted is shows h =
-    let behind : now ≡ made b e = is ∙ made_by (is_ok (verdict b e)) b e accepted in
-    λ k edges of.
-    subst (λ (m : Numbered). IsMarksOf b.plan m new) (sym (with_by (is_ok (verdict b e)) n e k accepted))
-    (h b.plan k of (λ dtack. shows dtack ∙ ap (λ s. shown s.plan s.history) behind ∙ shown_stays b.plan b.history e dtack ∙ ap (shown b.plan) (sym edges)))
-
-numbered_refused : (t : Bool) (n : ℕ) (e : Edge) (k : Numbered) → t ≡ false → (if t then (n, e) ∷ k else k) ≡ k
-numbered_refused t n e k is = rw is refl
 
 -- ---- what was followed
 
@@ -129,18 +70,6 @@ after_next p v es e old now is made_so same noted_so =
       marks = next.marked;
     }
 
--- a refused edge is not noted
-pub noted_refused : (b : State) (n : ℕ) (e : Edge) (old now : Marks) → now ≡ old → is_ok (verdict b e) ≡ false
-    → OfTrace b old (λ k. IsMarksOf b.plan (numbered_with b n e k) now)
-noted_refused b n e old now same refused =
-    λ k edges of. subst (λ (m : Marks). IsMarksOf b.plan (numbered_with b n e k) m) (sym same)
-    (subst (λ (l : Numbered). IsMarksOf b.plan l old) (sym (numbered_refused (is_ok (verdict b e)) n e k refused)) of)
-
--- ---- in the loops over edges
-
-pub next_list : (before es : List Edge) (i : ℕ) (d : Edge) → i < length es → (before ++ take i es) ++ (get_or es i d ∷ []) ≡ before ++ take (i + 1) es
-next_list before es i d h = append_assoc before (take i es) (get_or es i d ∷ []) ∙ ap (λ l. before ++ l) (sym (take_more es i d h))
-
 -- a refused edge leaves the bus and the marks as they were
 pub on_stays : {A E : Type 0} (p : Plan) (v : Version) (es : List Edge) (b now : State) (m noted : Marks) (r : Result A E) → is_ok r ≡ false → OnErr r ((now ≡ b) × (noted ≡ m)) → IsOn p v es b m
     → IsOn p v es now noted
@@ -149,11 +78,3 @@ on_stays p v es b now m noted (Err e) is_err h is = record {
   kept_so = h.0 ∙ is.kept_so;
   marked = subst (λ (n : Marks). IsMarksOf p (numbered (bench p v) es) n) (sym h.1) is.marked;
 }
-
-version_by : (t : Bool) (b : State) (e : Edge) → (if t then made b e else b).version ≡ b.version
-version_by true b e = refl
-version_by false b e = refl
-
-pub kept_version : (b : State) (es : List Edge) → (kept b es).version ≡ b.version
-kept_version b [] = refl
-kept_version b (e ∷ es) = kept_version (after b e) es ∙ version_by (is_ok (verdict b e)) b e

@@ -4,12 +4,11 @@ ghost use Rattle.vme_reading.specs.Streams.{streams, ReadNothing, WroteNothing};
 ghost use Rattle.vme_following.specs.Explaining.{ExplainsInput, WritesWhy};
 ghost use Rattle.vme_following.specs.Followed.{IsOn};
 
-use crate::following::step_marked;
 use crate::printing::print_at_edge;
 use std::alloc::Global;
 use std::io::{Read, Write};
 use vme_bus::Bus;
-use vme_explain::{Marks, write_why};
+use vme_explain::{Marks, step_marked, write_why};
 use vme_model::Edge;
 use vme_reading::{Asked, AtEdge, EngineFault, Status};
 use vme_trace::{Fault, flush};

@@ -2,24 +2,14 @@
 ghost use Rattle.std.specs.Prelude.{◌≡◌, ◌+◌, ◌<◌, ◌≤◌, ◌^◌, ◌++◌, ◌∷◌, [], ℕ, length, is_ok, Some, Ok, OnErr, IfSome, IfNone};
 ghost use Rattle.vme_model.specs.Plan.{Plan};
 ghost use Rattle.vme_model.specs.declared.signals.Version.{Version};
-ghost use Rattle.vme_model.specs.declared.signals.Wire.TheVariants.{Dtack};
-ghost use Rattle.vme_model.specs.History.{shown};
 ghost use Rattle.vme_model.specs.Verdict.{after, verdict};
-ghost use Rattle.vme_model.specs.Numbered.{numbered_with};
 ghost use Rattle.vme_model.specs.Deliveries.{answer};
-ghost use Rattle.vme_events.specs.Events.{events_of};
-ghost use Rattle.vme_events.specs.Ordered.{OfOrdered};
 ghost use Rattle.vme_reading.specs.Outcomes.{bench};
-ghost use Rattle.vme_explain.specs.Marked.{IsMarksOf};
-ghost use Rattle.vme_explain.specs.Traced.{OfTrace};
 ghost use Rattle.vme_following.specs.Followed.{IsAfter, OfAfter, Reaches, counted, printed_status};
 
-use arrayvec::ArrayVec;
 use vme_bus::Bus;
-use vme_events::events_of;
-use vme_explain::Marks;
-use vme_goals::Event;
-use vme_model::{Cycle, Delivery, Edge, Refused, Wire};
+use vme_explain::{Marks, step_marked};
+use vme_model::{Delivery, Edge, Refused};
 use vme_reading::{EngineFault, Status};
 use vme_trace::Fault;
 
@@ -67,44 +57,6 @@ fn count_up_to(n: Option<u64>, judged: u64, len: usize) -> Option<usize>
     }
 }
 
-/// What is shown, if the edge is one of DTACK*: no other needs it.
-#[inline(always)]
-fn shown_at(bus: &Bus, edge: Edge) -> Option<Cycle>
-    ensures { edge.wire ≡ Dtack → result ≡ shown bus.now.plan bus.now.history }
-{
-    match edge.wire {
-        Wire::Dtack => bus.shown(),
-        _ => None,
-    }
-}
-
-/// Makes the next edge of a trace, the n-th, if it is accepted, and notes it then. Gives the answer
-/// to it.
-#[inline(always)]
-pub fn step_marked(
-    bus: &mut Bus,
-    marks: &mut Marks,
-    n: u64,
-    edge: &Edge,
-) -> Result<Option<Delivery>, Refused>
-    ensures answer { result ≡ answer bus.old edge.now }
-    ensures accepted { is_ok result ≡ is_ok (verdict bus.old edge.now) }
-    ensures state { bus.new ≡ after bus.old edge.now }
-    ensures refused { OnErr result ((bus.new ≡ bus.old) × (marks.new ≡ marks.old)) }
-    ensures noted { OfTrace bus.old marks.old (λ k.
-        IsMarksOf bus.old.plan (numbered_with bus.old n edge.now k) marks.new) }
-{
-    match bus.step(*edge) {
-        Ok(delivery) => {
-            // Such an edge does not change what is shown.
-            let shown = shown_at(bus, *edge);
-            marks.note(edge, n, shown);
-            Ok(delivery)
-        }
-        Err(refused) => Err(refused),
-    }
-}
-
 impl Following {
     /// Before the first edge.
     pub fn new(bus: Bus) -> Following
@@ -116,14 +68,6 @@ impl Following {
             marks: Marks::new(),
             judged: 0,
         }
-    }
-
-    /// The situations that an edge brings about that is about to be made.
-    pub fn events(&self, edge: &Edge) -> ArrayVec<Event, 2>
-        ensures { OfOrdered self.now.bus self.now.marks (λ _. result.items
-            ≡ events_of self.now.bus.plan self.now.bus.history edge.now) }
-    {
-        events_of(&self.bus, &self.marks, edge)
     }
 
     /// Makes the next edge if it is accepted, and gives the answer to it. It is not yet counted.

@@ -11,6 +11,6 @@ mod printing;
 mod states;
 
 pub use explains::explain;
-pub use following::{Following, Printed, status_of, step_marked};
+pub use following::{Following, Printed, status_of};
 pub use printing::print_at_edge;
 pub use states::state;

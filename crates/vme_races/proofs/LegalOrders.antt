@@ -26,7 +26,7 @@ use Rattle.vme_reading.specs.LegalTraces.{IsLegalTrace}
 use Rattle.vme_reading.specs.Refusals.{first_refusal}
 use Rattle.vme_reading.specs.Outcomes.{bench}
 use Rattle.vme_reading.proofs.FirstRefusals.{all_kept}
-use Rattle.vme_following.proofs.FollowedEdges.{edges_on}
+use Rattle.vme_reading.proofs.KeptEdges.{edges_on}
 use Rattle.vme_reading.proofs.LegalTrace.{all_well_formed, legal_trace}
 use Rattle.vme_swaps.specs.declared.stops.Stop.{Stop}
 use Rattle.vme_swaps.specs.declared.stops.Stop.TheVariants.{Races}

@@ -8,8 +8,6 @@ pub mod TakenIn
 pub mod WrittenRaces
 -- src/asked.rt: the line of the edge that is asked for, and the edges that are passed
 pub mod AskedLines
--- `write_trace`: the text of edges, and of two more
-pub mod WrittenOrders
 -- `Reordering`: the accepted edges in a list
 pub mod ListedEdges
 -- `other_order`: the other order of a race

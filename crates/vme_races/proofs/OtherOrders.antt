@@ -20,7 +20,7 @@ use Rattle.vme_reading.specs.declared.seeking.Found.TheVariants as found
 use Rattle.vme_reading.specs.Readings.{ReadsInput, ReadsLent}
 use Rattle.vme_reading.specs.Seeking.{SeeksEdge}
 use Rattle.vme_reading.specs.Streams.{Streams}
-use Rattle.vme_following.proofs.FollowedEdges.{edges_on, kept_version}
+use Rattle.vme_reading.proofs.KeptEdges.{edges_on, kept_version}
 use Rattle.vme_races.specs.declared.other.OtherOrder.{OtherOrder}
 use Rattle.vme_races.specs.declared.other.OtherOrder.TheVariants.{Beyond, NoRace, Written}
 use Rattle.vme_races.specs.declared.racing.Racing.{Racing}

@@ -18,7 +18,7 @@ use Rattle.vme_trace.specs.declared.Fault.{Fault}
 use Rattle.vme_trace.specs.declared.Fault.TheVariants.{Memory, Write}
 use Rattle.vme_trace.specs.Writing.{AppendsFront}
 use Rattle.vme_reading.specs.Outcomes.{bench}
-use Rattle.vme_following.proofs.FollowedEdges.{edges_on, kept_plan, kept_version, next_list, numbered_append}
+use Rattle.vme_reading.proofs.KeptEdges.{edges_on, kept_plan, kept_version, next_list, numbered_append}
 use Rattle.vme_reading.proofs.WrittenLines.{front_behind, kept_append}
 use Rattle.vme_races.specs.declared.judge.Reporting.{Reporting}
 use Rattle.vme_races.specs.declared.racing.Counts.{Counts}

@@ -21,7 +21,7 @@ use Rattle.vme_reading.specs.Pieces.{Came}
 use Rattle.vme_reading.specs.Readings.{LeavesNow}
 use Rattle.vme_reading.specs.Steps.{traced}
 use Rattle.vme_reading.specs.Waiting.{StopsWaiting}
-use Rattle.vme_following.proofs.FollowedEdges.{edges_on}
+use Rattle.vme_reading.proofs.KeptEdges.{edges_on}
 use Rattle.vme_reading.proofs.ReadOn.{came_begins}
 use Rattle.vme_reading.proofs.Waits.{stops_unread, waits_now}
 use Rattle.vme_reading.proofs.WrittenLines.{appends_behind, front_behind, front_kept, front_of_all}

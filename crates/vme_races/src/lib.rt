@@ -14,7 +14,6 @@ mod other;
 mod racing;
 mod recent;
 mod walks;
-mod writing;
 
 pub use asked::walk_of_edge;
 pub use judge::races;

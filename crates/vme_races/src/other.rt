@@ -14,12 +14,11 @@ ghost use Rattle.vme_races.specs.Listed.{AreListed, before_met};
 ghost use Rattle.vme_races.specs.Other.{Orders, WritesOrder};
 
 use crate::racing::Racing;
-use crate::writing::write_trace;
 use std::alloc::Global;
 use std::io::{Read, Write};
 use vme_bus::Bus;
 use vme_model::Edge;
-use vme_reading::{Asked, AtEdge, EngineFault, Found, at_edge};
+use vme_reading::{Asked, AtEdge, EngineFault, Found, at_edge, write_trace};
 use vme_store::Code;
 use vme_swaps::Stop;
 use vme_trace::Fault;
@@ -65,7 +64,8 @@ impl Reordering {
     {
         let version = self.racing.bus.version();
         let count = self.edges.len().saturating_sub(passed.saturating_add(1));
-        write_trace(version, &self.edges[..count], edge, met, out)
+        let last = [Code::of(*edge), Code::of(*met)];
+        write_trace(version, &self.edges[..count], &last, out)
     }
 
     /// Writes the other order of the race of the next edge, if it has one.

@@ -1,5 +1,9 @@
 -- lines that are written one after another: src/lines.rt, `drives::write_history`
 pub mod WrittenLines
+-- what is kept of a list of edges: `SoughtEdges`, and the engines
+pub mod KeptEdges
+-- the text of a trace of edges that were kept: src/writing.rt
+pub mod WrittenTraces
 -- the edges and the version of a trace, as more of it is read: `TraceReads`
 pub mod TraceSoFar
 -- what a reader has read can go on, as X5 has it: `TraceReads`, `ReadOn`

@@ -5,7 +5,7 @@ use Rattle.std.specs.List.{list_all}
 use Rattle.std.proofs.Math.ListN.{length-append}
 use Rattle.std.proofs.Math.Seq.{take-append_seam}
 use Rattle.std.proofs.lemmas.Bool.{and_parts}
-use Rattle.std.proofs.lemmas.List.{drop_more, take_more}
+use Rattle.std.proofs.lemmas.List.{drop_more}
 use Rattle.std.specs.Io.KnownBytes.{Keeps}
 use Rattle.std.proofs.KnownBytes.{Keeps-refl}
 use Rattle.vme_model.specs.declared.signals.Edge.{Edge}
@@ -28,6 +28,7 @@ use Rattle.vme_reading.specs.Steps.{Begins}
 use Rattle.vme_reading.specs.Streams.{Streams, streams, WroteNothing}
 use Rattle.vme_reading.specs.Waiting.{StopsWaiting}
 use Rattle.vme_reading.proofs.FormedEdges.{formed_both}
+use Rattle.vme_reading.proofs.KeptEdges.{next_list}
 use Rattle.vme_reading.proofs.ReadOn.{came_begins}
 use Rattle.vme_reading.proofs.FirstRefusals.{refusal_behind, refused_by, first_behind}
 use Rattle.vme_reading.proofs.Waits.{stops_unread, waits_now}
@@ -86,12 +87,6 @@ module _ {S : Type 0} (Stands : Standing S) (asked : Option ℕ) (p : Plan) (v :
         ∙ ok_none (1 + length es) (verdict (kept (bench p v) es) e) accepted))
 
 -- ---- in the loop over edges
-
-pub next_list : (before es : List Edge) (i : ℕ) (d : Edge) → i < length es
-    → (before ++ take i es) ++ (get_or es i d ∷ []) ≡ before ++ take (i + 1) es
-next_list before es i d h =
-    append_assoc before (take i es) (get_or es i d ∷ []) ∙ ap (λ l. before ++ l)
-    (sym (take_more es i d h))
 
 pub split_at : (es : List Edge) (i : ℕ) (d : Edge) → i < length es
     → es ≡ take i es ++ (get_or es i d ∷ drop (i + 1) es)

@@ -16,6 +16,7 @@ mod readings;
 mod seeking;
 mod texts;
 mod traces;
+mod writing;
 
 pub use pairs::{Pair, PairFault, read_pair};
 pub use pieces::{JUDGED_AT_ONCE, buffer_of};
@@ -26,6 +27,7 @@ pub use texts::{hand_on, make_room};
 use thiserror::Error;
 use vme_scenario::ScenarioError;
 use vme_trace::Fault;
+pub use writing::write_trace;
 
 /// The greatest scenario, in bytes.
 pub const SCENARIO_LIMIT: usize = 1_048_576;

@@ -17,8 +17,7 @@ use Rattle.vme_bus.specs.States.{IsStateOf, OfHistory}
 use Rattle.vme_reading.specs.Refusals.{first_refusal, or_refusal}
 use Rattle.vme_reading.specs.Outcomes.{bench}
 use Rattle.vme_reading.proofs.FirstRefusals.{refusal_behind, refusal_stays}
-use Rattle.vme_following.proofs.FollowedEdges.{edges_on, kept_plan, numbered_append}
-use Rattle.vme_following.proofs.FollowedEdges.{kept_version}
+use Rattle.vme_reading.proofs.KeptEdges.{edges_on, kept_plan, kept_version, numbered_append}
 use Rattle.vme_same.specs.declared.sides.Side.{Side}
 use Rattle.vme_same.specs.Kept.{IsSide}
 

@@ -17,7 +17,7 @@ use Rattle.vme_swaps.proofs.Behind.{AreSame, same_by_swaps}
 use Rattle.vme_reading.specs.Refusals.{first_refusal}
 use Rattle.vme_reading.specs.Outcomes.{bench}
 use Rattle.vme_reading.proofs.FirstRefusals.{all_kept}
-use Rattle.vme_following.proofs.FollowedEdges.{edges_on}
+use Rattle.vme_reading.proofs.KeptEdges.{edges_on}
 use Rattle.vme_same.specs.declared.comparisons.Comparison.TheVariants.{Same}
 use Rattle.vme_same.specs.Comparing.{Compares, IsComparison, IsFound}
 use Rattle.vme_same.proofs.Brought.{brought_at, swaps_none, swaps_on}

@@ -6,11 +6,11 @@ ghost use Rattle.vme_model.specs.Plan.{Plan as PlanValue};
 ghost use Rattle.vme_model.specs.Signals.{is_well_formed};
 ghost use Rattle.vme_shrink.specs.Shrinking.{IsFront, WritesStory};
 
-use crate::writing::write_trace;
 use std::alloc::Global;
 use std::io::Write;
 use vme_model::Edge;
-use vme_reading::Status;
+use vme_reading::{Status, write_trace};
+use vme_store::Code;
 use vme_stories::{Front, StoryProgress, story};
 use vme_trace::Fault;
 
@@ -46,6 +46,6 @@ pub(crate) fn write_story<W: Write, P: StoryProgress>(
     let Ok(story) = story(alloc, front, *edge, progress) else {
         return Err(Fault::Memory);
     };
-    write_trace(version, &story, edge, out)?;
+    write_trace(version, &story, &[Code::of(*edge)], out)?;
     Ok(status)
 }

@@ -3,7 +3,6 @@
 
 mod fronts;
 mod shrinks;
-mod writing;
 
 pub use shrinks::shrink;
 pub use vme_stories::StoryProgress;

@@ -189,6 +189,3 @@ kept_next b s now es i d lt is next =
     next ∙ ap (λ (x : State). after x (get_or es i d)) is
     ∙ sym (kept_append b (take i es) (get_or es i d ∷ []))
     ∙ ap (kept b) (sym (take_more es i d lt))
-
-pub made_by : (b : State) (e : Edge) (t : Bool) → t ≡ true → (if t then made b e else b) ≡ made b e
-made_by b e t is = ap (λ (u : Bool). if u then made b e else b) is

@@ -1,7 +1,6 @@
 //! What is said of an edge behind the edges that were made on a bus.
 ghost use Rattle.std.specs.Prelude.{◌≡◌, [], if◌then◌else◌, OnOk, is_ok};
-ghost use Rattle.vme_model.specs.declared.signals.Wire.TheVariants.{Dtack};
-ghost use Rattle.vme_model.specs.History.{in_order, shown};
+ghost use Rattle.vme_model.specs.History.{in_order};
 ghost use Rattle.vme_model.specs.Verdict.{after, kept};
 ghost use Rattle.vme_events.specs.Events.{events_of};
 ghost use Rattle.vme_events.specs.Places.{by_place};
@@ -14,20 +13,10 @@ use arrayvec::ArrayVec;
 use std::alloc::AllocError;
 use vme_bus::Bus;
 use vme_events::events_of;
-use vme_explain::Marks;
+use vme_explain::{Marks, step_marked};
 use vme_goals::Event;
-use vme_model::{Cycle, Edge, Wire};
+use vme_model::Edge;
 use vme_store::Code;
-
-/// What is shown, if the edge is one of DTACK*: no other needs it.
-fn shown_at(bus: &Bus, edge: Edge) -> Option<Cycle>
-    ensures { edge.wire ≡ Dtack → result ≡ shown bus.now.plan bus.now.history }
-{
-    match edge.wire {
-        Wire::Dtack => bus.shown(),
-        _ => None,
-    }
-}
 
 /// Makes the edge if it is accepted, and marks it then.
 fn mark(bus: &mut Bus, marks: &mut Marks, edge: Edge)
@@ -35,12 +24,8 @@ fn mark(bus: &mut Bus, marks: &mut Marks, edge: Edge)
     ensures state { bus.new ≡ after bus.old edge }
     ensures marks { IsMarksOf bus.new.plan (by_place bus.new.history) marks.new }
 {
-    // An edge of DTACK* does not change what is shown.
-    let shown = shown_at(bus, edge);
-    if bus.step(edge).is_err() {
-        return;
-    }
-    marks.note(&edge, u64::from(bus.len()), shown);
+    let place = u64::from(bus.len()) + 1;
+    let _ = step_marked(bus, marks, place, &edge);
 }
 
 /// The marks of the edges that were made, which are made once more for them.

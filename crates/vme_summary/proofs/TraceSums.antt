@@ -30,7 +30,8 @@ use Rattle.vme_reading.specs.Waiting.{StopsWaiting}
 use Rattle.vme_following.specs.Followed.{IsAfter}
 use Rattle.vme_summary.specs.Summing.{IsSummedUp, IsWaiting, Sums}
 use Rattle.vme_summary.specs.TraceSums.{IsSumOf, Tallies, sum_text}
-use Rattle.vme_following.proofs.FollowedEdges.{kept_plan, edges_on, ok_with}
+use Rattle.vme_reading.proofs.KeptEdges.{edges_on, kept_plan}
+use Rattle.vme_explain.proofs.MarkedSteps.{ok_with}
 use Rattle.std.specs.Io.KnownBytes.{Appends, Keeps}
 use Rattle.vme_trace.specs.Writing.{AppendsFront}
 use Rattle.vme_reading.specs.Steps.{traced}

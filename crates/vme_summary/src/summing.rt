@@ -16,6 +16,7 @@ use crate::tallies::Tally;
 use std::alloc::Global;
 use std::io::{Read, Write};
 use vme_bus::Bus;
+use vme_events::events_of;
 use vme_following::Following;
 use vme_model::Edge;
 use vme_reading::{EngineFault, Judge, Status, read};
@@ -36,7 +37,7 @@ impl Summing {
         ensures judged { self.new.following.judged ≡ self.old.following.judged + 1 }
         ensures sum { OfSum self.old (λ p v es. IsSumOf p v (es ++ edge.now ∷ []) self.new) }
     {
-        let events = self.following.events(edge);
+        let events = events_of(&self.following.bus, &self.following.marks, edge);
         let answer = self.following.step(edge);
         self.following.judged += 1;
         self.tally.note(edge, &answer, events.as_slice());

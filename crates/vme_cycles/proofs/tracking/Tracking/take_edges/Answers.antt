@@ -1,7 +1,7 @@
 use Rattle.std.proofs.Common.{List, arith, subst}
 use Rattle.vme_model.specs.declared.signals.Edge.{Edge}
 use Rattle.vme_trace.proofs.WrittenLines.{on_err}
-use Rattle.vme_following.proofs.FollowedEdges.{next_list}
+use Rattle.vme_reading.proofs.KeptEdges.{next_list}
 use Rattle.vme_cycles.specs.Kept.{IsTracked}
 use Rattle.vme_cycles.proofs.NextLines.{one_cut, one_written}
 use Rattle.vme_cycles.proofs.tracking.Tracking.take_edges.Goals as goal

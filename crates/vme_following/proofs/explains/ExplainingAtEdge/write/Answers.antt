@@ -8,11 +8,12 @@ use Rattle.vme_model.specs.declared.signals.Edge.{Edge}
 use Rattle.vme_model.specs.Verdict.{State, verdict}
 use Rattle.vme_model.specs.Deliveries.{answer, delivery}
 use Rattle.vme_model.specs.Why.{why_text}
+use Rattle.vme_explain.proofs.MarkedSteps.{ok_with}
 use Rattle.vme_trace.specs.Writing.{AppendsFront}
 use Rattle.vme_reading.specs.declared.Status.TheVariants.{Done, SomeRefused}
 use Rattle.vme_reading.proofs.WrittenLines.{front_kept}
 use Rattle.vme_following.specs.Explaining.{edge_status}
-use Rattle.vme_following.proofs.FollowedEdges.{of_on, ok_with}
+use Rattle.vme_following.proofs.FollowedEdges.{of_on}
 use Rattle.vme_following.proofs.explains.ExplainingAtEdge.write.Goals as goal
 
 -- whether the answer to an edge accepts it

@@ -1,7 +1,7 @@
 use Rattle.std.proofs.Common.{subst, arith, List}
 use Rattle.vme_model.specs.declared.signals.Edge.{Edge}
 use Rattle.vme_following.specs.Followed.{IsAfter, counted}
-use Rattle.vme_following.proofs.FollowedEdges.{next_list}
+use Rattle.vme_reading.proofs.KeptEdges.{next_list}
 use Rattle.vme_following.proofs.following.Following.follow.Goals as goal
 
 pub loop-edge-preserved : goal.loop-edge-preserved

@@ -1,6 +1,6 @@
 use Rattle.std.proofs.Common.{◌∙◌, ◌++◌, arith, false, subst, take}
 use Rattle.std.proofs.lemmas.List.{take_all}
-use Rattle.vme_following.proofs.FollowedEdges.{next_list}
+use Rattle.vme_reading.proofs.KeptEdges.{next_list}
 use Rattle.vme_same.specs.Kept.{Runs}
 use Rattle.vme_same.proofs.Running.{runs_on}
 use Rattle.vme_same.proofs.matching.Matching.add_to_second.Goals as goal

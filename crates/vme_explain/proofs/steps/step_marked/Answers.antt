@@ -1,6 +1,6 @@
 use Rattle.std.proofs.Common.{refl, sym}
-use Rattle.vme_following.proofs.FollowedEdges.{noted, noted_refused}
-use Rattle.vme_following.proofs.following.step_marked.Goals as goal
+use Rattle.vme_explain.proofs.MarkedSteps.{noted, noted_refused}
+use Rattle.vme_explain.proofs.steps.step_marked.Goals as goal
 
 pub returns-in-Ok-clause-noted : goal.returns-in-Ok-clause-noted
 returns-in-Ok-clause-noted c =

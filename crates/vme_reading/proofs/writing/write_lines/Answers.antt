@@ -1,7 +1,7 @@
 use Rattle.std.proofs.Common.{◌∙◌, ap, arith}
 use Rattle.vme_trace.specs.Writing.{edge_line}
 use Rattle.vme_trace.proofs.WrittenLines.{on_err, line_more, line_front}
-use Rattle.vme_races.proofs.writing.write_lines.Goals as goal
+use Rattle.vme_reading.proofs.writing.write_lines.Goals as goal
 
 pub returns-in_err-write_line-clause-front : goal.returns-in_err-write_line-clause-front
 returns-in_err-write_line-clause-front g c =
