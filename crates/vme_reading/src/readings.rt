@@ -7,7 +7,7 @@ ghost use Rattle.vme_model.specs.Locality.{AreWellFormed};
 ghost use Rattle.vme_trace.specs.declared.Fault.{Fault as FaultValue};
 ghost use Rattle.vme_reading.specs.Streams.{Streams, streams, ReadNothing, WroteNothing};
 ghost use Rattle.vme_reading.specs.Outcomes.{bench};
-ghost use Rattle.vme_reading.specs.Steps.{IsCounted};
+ghost use Rattle.vme_reading.specs.Steps.{IsCounted, piece_size};
 ghost use Rattle.vme_reading.specs.Waiting.{StopsWaiting};
 ghost use Rattle.vme_reading.specs.Begun.{IsUnread};
 ghost use Rattle.vme_reading.specs.Readings.{GoesOn, Takes, ReadsOn, ReadsInput, ReadsLent};
@@ -53,13 +53,6 @@ pub trait Judge: Drop {
         ensures stands { (p : PlanValue) (v : VersionValue) (old : Option (List ℕ))
             → bus ≡ bench p v → stands task.now p v [] old old result };
 
-    /// Does nothing. Its contract says what is left of a trace without a header line.
-    fn unbegun(task: &Self::Task)
-        requires can { can task.now }
-        ensures { (p : PlanValue) (trace : List ℕ) (s : Streams) (f : FaultValue) → WroteNothing s
-            → StopsWaiting IsUnread trace (streams s.from s.to None None) f
-            → leaves task.now p trace s (Err f) };
-
     /// Takes the edges of a piece. None if it has no answer yet, and the trace goes on.
     ///
     /// `more` is what the read of the piece answered. If whoever writes the trace has `paused`
@@ -78,6 +71,12 @@ pub trait Judge: Drop {
             (old : Option (List ℕ)) → stands task p v es old (W.contents out.old) self.old
             → Takes (stands task p v) (leaves task p) v (es ++ edges.now) more
             old (W.contents out.new) self.new result };
+
+    /// A law: what is left of a trace without a header line.
+    ghost unbegun: { (task : Self.Task) → can task → (p : PlanValue) (trace : List ℕ) (s : Streams)
+        (f : FaultValue) → WroteNothing s
+        → StopsWaiting IsUnread trace (streams s.from s.to None None) f
+        → leaves task p trace s (Err f) };
 }
 
 /// Has a judge take the edges of a trace whose first piece was read, with at most so many further
@@ -96,7 +95,7 @@ pub fn read_on<J: Judge, R: Read, W: Write>(
     input: &mut R,
     out: &mut W,
 ) -> Result<J::Answer, Fault>
-    requires room { length buffer.old ≡ 69632 }
+    requires room { length buffer.old ≡ piece_size }
     requires counted { first ≡ Ok true → IsCounted reader.old reads (length edges.old.items) }
     requires well_formed { AreWellFormed edges.old.items }
     requires begun { J.count judge.old ≡ 0 }
@@ -135,14 +134,13 @@ fn read_trace<J: Judge, R: Read, W: Write>(
     trace: &mut R,
     out: &mut W,
 ) -> Result<J::Answer, Fault>
-    requires room { length buffer.old ≡ 69632 }
+    requires room { length buffer.old ≡ piece_size }
     requires can { J.can task.now }
     ensures { ReadsInput (J.leaves task.now plan)
         (streams (R.remaining trace.old) (R.remaining trace.new)
         (W.contents out.old) (W.contents out.new)) result }
 {
     let mut input = Input::new(alloc);
-    J::unbegun(task);
     let version = input.begin(buffer, trace)?;
     let mut judge = J::begin(task, Bus::new(plan, version));
     input.read_on(&mut judge, buffer, trace, out)

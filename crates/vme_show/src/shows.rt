@@ -1,16 +1,21 @@
 //! Showing a stretch of a trace as a picture.
 ghost use Rattle.std.specs.Prelude.{◌≡◌, ◌+◌, ◌-◌, ◌<◌, ◌≤◌, ◌++◌, ◌∷◌, [], List, length, min, IfErr, OnOk, OnErr};
+ghost use Rattle.std.proofs.Common.{inl};
 ghost use Rattle.std.specs.Io.KnownBytes.{Appends, Keeps};
 ghost use Rattle.vme_model.specs.declared.signals.Edge.{Edge as EdgeValue};
 ghost use Rattle.vme_model.specs.Verdict.{State};
 ghost use Rattle.vme_trace.specs.Writing.{AppendsFront};
-ghost use Rattle.vme_reading.specs.Streams.{streams, ReadNothing, WroteNothing};
+ghost use Rattle.vme_reading.specs.Streams.{streams, ReadNothing, Wrote, WroteNothing};
 ghost use Rattle.vme_reading.specs.Outcomes.{LentAsking, bench};
 ghost use Rattle.vme_reading.specs.Readings.{GoesOn};
-ghost use Rattle.vme_show.specs.Showing.{Shows, ShowsInput};
+ghost use Rattle.vme_show.specs.Showing.{Shows, ShowsInput, shown_text};
 ghost use Rattle.vme_show.specs.Stretches.{IsStretch};
 ghost use Rattle.vme_show.specs.Shown.{Ends, EndsStretch, IsBefore, IsFresh, IsShown, status_to, stretch_text};
 ghost use Rattle.vme_following.specs.Followed.{printed_answer};
+ghost use Rattle.vme_reading.specs.Unread.{stops_unread};
+ghost use Rattle.vme_reading.proofs.WrittenLines.{appends_behind};
+ghost use Rattle.std.proofs.KnownBytes.{Appends-nil};
+ghost use Rattle.std.proofs.Math.Nat.{le_trans};
 
 use crate::windows::Window;
 use std::alloc::Global;
@@ -22,11 +27,12 @@ use vme_model::Edge;
 use vme_reading::{EngineFault, Judge, Status, read};
 use vme_trace::{Fault, flush};
 
-/// How many of `len` edges after the first `judged` are among the first `n`.
-fn count_up_to(n: u64, judged: u64, len: usize) -> usize
-    ensures { result ≡ min (n - judged) len }
+/// How many of the next `len` edges of a trace, of which `judged` came before, have a number of at
+/// most `last`.
+fn numbered_within(last: u64, judged: u64, len: usize) -> usize
+    ensures { result ≡ min (last - judged) len }
 {
-    n.saturating_sub(judged).min(len as u64) as usize
+    last.saturating_sub(judged).min(len as u64) as usize
 }
 
 /// Which edges of a trace are shown, by their numbers, and whether in color.
@@ -134,7 +140,7 @@ impl Showing {
         ensures shown { (b : State) (es : List EdgeValue)
             → IsShown b es self.old → IsShown b (es ++ edges.now) self.new }
     {
-        let before = count_up_to(self.stretch.from - 1, self.judged, edges.len());
+        let before = numbered_within(self.stretch.from - 1, self.judged, edges.len());
         self.skip(&edges[..before]);
         self.keep_all(&edges[before..]);
     }
@@ -197,7 +203,7 @@ impl Showing {
             → Ends self.old.stretch b (es ++ edges.now) more
             (W.contents out.old) (W.contents out.new) self.new result }
     {
-        let count = count_up_to(self.stretch.to, self.judged, edges.len());
+        let count = numbered_within(self.stretch.to, self.judged, edges.len());
         self.take_in(&edges[..count]);
         if self.judged == self.stretch.to {
             return Ok(Some(self.end(out)?));
@@ -229,11 +235,16 @@ impl Judge for Showing {
     ghost leaves = { λ stretch p trace s answer.
         Shows stretch.from stretch.to stretch.color p trace s (printed_answer answer) };
 
+    ghost unbegun = { λ stretch is p trace s f kept h.
+        inl (stops_unread (λ version es. (length es < stretch.to)
+        × Wrote s (shown_text stretch.color stretch.from stretch.to p version es)) (
+          le_trans is.some is.order,
+          appends_behind s.old s.new s.new [] kept (Appends-nil s.new),
+        ) trace s f h) };
+
     fn begin(task: &Stretch, bus: Bus) -> Showing {
         Showing::new(bus, *task)
     }
-
-    fn unbegun(_task: &Stretch) {}
 
     fn take<W: Write>(
         &mut self,
@@ -272,7 +283,8 @@ pub fn show<R: Read, W: Write>(
     requires few { to < from + 200 }
     ensures { let s = streams (R.remaining trace.old) (R.remaining trace.new)
         (W.contents out.old) (W.contents out.new) in
-        LentAsking scenario.now (ReadNothing s × WroteNothing s) (ShowsInput from to color s) result }
+        LentAsking scenario.now (ReadNothing s × WroteNothing s)
+        (ShowsInput from to color s) result }
 {
     let stretch = Stretch { from, to, color };
     status_of(read::<Showing, R, W>(alloc, scenario, &stretch, trace, out))
