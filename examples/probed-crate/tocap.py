@@ -17,7 +17,8 @@ from decimal import Decimal
 # address and D the data, both in hexadecimal; IACK is the line IACK*, and no pin of its chain.
 COLUMNS = {}
 
-# The column of the times, and the time that becomes 1 in the capture.
+# The column of the times, and the time that becomes 1 in the capture, in the unit of that column:
+# Decimal("1e-9") makes nanoseconds of seconds, and Decimal("1") leaves them as they are.
 TIME, STEP = "s", Decimal("1e-9")
 
 # The first and the last address of each slave, and its slot.
@@ -89,6 +90,15 @@ def read(file, pins):
         sys.exit(f"row {reader.line_num + 1}: it cannot be read: {why}")
 
 
+def times_of(rows):
+    """The times of the rows, none of which is before the one above it."""
+    times = [row.time() for row in rows]
+    for row, time, above in zip(rows[1:], times[1:], times):
+        if time < above:
+            sys.exit(f"row {row.number}: its time is before that of the row above it")
+    return times
+
+
 def lines_of(rows, pins):
     """For each signal, in which rows it is low. DS is low while a data strobe is."""
     parts = {"DS": DATA_STROBES}
@@ -102,7 +112,10 @@ def shown_by(row):
     """An acknowledge of a level, or an access to a slot; `r` if no slave has the address."""
     address = row.bits("A")
     if row["IACK"] == "0":
-        return f"i{address >> 1 & 7}"
+        level = address >> 1 & 7
+        if not level:
+            sys.exit(f"row {row.number}: an acknowledge of level 0: A1 to A3 should be in column A")
+        return f"i{level}"
     return next((f"r{slot}" for first, last, slot in SLAVES if first <= address <= last), "r")
 
 
@@ -174,10 +187,16 @@ def tidy_all(rows, low, first):
     return shown, left_out
 
 
+def moved_in(row, low):
+    """The signals that change in a row."""
+    return [name for name, line in low.items() if line[row] != line[row - 1]]
+
+
 def changes_in(rows, row, low, shown):
-    """The changes of a row, a cause before its effect; the rise of AS* ends a cycle."""
-    moved = [name for name, line in low.items() if line[row] != line[row - 1]]
-    for name in sorted(moved, key=lambda it: it == "AS" and not low["AS"][row]):
+    """The changes of a row, in the order that a cycle has: its ends come last, AS* behind all."""
+    last = ["DS", "DTACK", "BERR", "AS"]
+    place = {name: last.index(name) for name in last if not low[name][row]}
+    for name in sorted(moved_in(row, low), key=lambda it: place.get(it, -1)):
         if not low[name][row]:
             yield f"{name}+"
         elif name == "AS":
@@ -188,18 +207,33 @@ def changes_in(rows, row, low, shown):
             yield f"{name}-"
 
 
+def notes_on(rows, joint, shown, left_out, pins):
+    """What the capture does not say of the file."""
+    yield f"{len(rows)} rows; cycles without a strobe left out: {left_out}"
+    unknown = [row for row, cycle in shown.items() if cycle == "r" and shown.get(row - 1) != "r"]
+    if unknown:
+        row = rows[unknown[0]]
+        yield f"accesses outside SLAVES: {len(unknown)}, the first in row {row.number}, {row['A']}"
+    others = [column for column in rows[0] if PIN.fullmatch(column) and column not in pins]
+    if others:
+        yield f"pins that were not asked for: {', '.join(others)}"
+    if joint:
+        yield f"rows with several changes: {joint}; their order is not known, so use probe --skew 0"
+
+
 def main():
     pins = sys.argv[1:]
     for pin in pins:
         if not PIN.fullmatch(pin):
             sys.exit(f"'{pin}' is no pin: one is called as '4 BG3IN' or '9 IACKOUT' is")
     rows = read(sys.stdin, pins)
-    times = [row.time() for row in rows]
+    times = times_of(rows)
     low = lines_of(rows, pins)
     quiet = (row for row in range(len(rows)) if not low["AS"][row] and not low["DS"][row])
     first = next(quiet, None)
     if first is None:
         sys.exit("AS* and DS* are never high in the same row")
+    joint = sum(len(moved_in(row, low)) > 1 for row in range(first + 1, len(rows)))
     shown, left_out = tidy_all(rows, low, first)
 
     print("vme 1", *(f"pin {pin}" for pin in pins), "running", sep="\n")
@@ -211,7 +245,7 @@ def main():
         changes = list(changes_in(rows, row, low, shown))
         if changes:
             print(f"@{int((times[row] - begin) / STEP)}", *changes, sep="\n")
-    print(f"{len(rows)} rows; cycles without a strobe left out: {left_out}", file=sys.stderr)
+    print(*notes_on(rows, joint, shown, left_out, pins), sep="\n", file=sys.stderr)
 
 
 if __name__ == "__main__":

@@ -1,5 +1,5 @@
 //! Reading a trace, and writing what its transactions are.
-ghost use Rattle.std.specs.Prelude.{◌≡◌, ◌++◌, IfErr, IfOk, OnErr, OnOk, Some};
+ghost use Rattle.std.specs.Prelude.{◌≡◌, ◌++◌, [], IfErr, IfOk, OnErr, OnOk, Some};
 ghost use Rattle.std.proofs.Common.{inl};
 ghost use Rattle.std.specs.Io.KnownBytes.{Appends};
 ghost use Rattle.vme_model.specs.Numbered.{numbered};

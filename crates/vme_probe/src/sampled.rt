@@ -110,6 +110,8 @@ fn push_refused_next(
 
 impl Known {
     /// The text of a sample of which no order is possible.
+    // Out of line, as is the next one: each has texts of 32 KiB, which share no room in one frame.
+    #[inline(never)]
     fn stopped_in(&self, plan: &Plan, sample: &[SeenChange], ways: &mut Ways) -> Report
         requires few { length sample.now ≤ 12 }
         requires some { 0 < length sample.now }
@@ -133,6 +135,7 @@ impl Known {
     ///
     /// # Errors
     /// X8 if that failed; a prefix of the text was written then.
+    #[inline(never)]
     fn take_several<W: Write>(
         &mut self,
         plan: &Plan,

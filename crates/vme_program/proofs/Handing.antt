@@ -1,5 +1,5 @@
 -- The answer of an engine, as a job passes it on.
-use Rattle.std.proofs.Common.{◌≡◌, inl, inr, ℕ, Bool, List, Option, Result, Ok, Err, refl, subst}
+use Rattle.std.proofs.Common.{◌≡◌, inl, inr, ℕ, Bool, List, Result, Ok, Err, refl, subst}
 use Rattle.std.specs.Io.KnownBytes.{Keeps}
 use Rattle.std.specs.Borrow.{Bor}
 use Rattle.vme_model.specs.declared.signals.Version.{Version}
@@ -21,14 +21,12 @@ use Rattle.vme_moments.specs.declared.slacks.Slacks.{Slacks}
 use Rattle.vme_order.specs.declared.Form.{Form}
 use Rattle.vme_order.specs.declared.OrderingFault.TheVariants as order
 use Rattle.vme_order.specs.Ordering.{Answer as OrderAnswer, LentText, OrdersInput}
-use Rattle.vme_probe.specs.declared.ProbeFault.TheVariants as probe
-use Rattle.vme_probe.specs.Probing.{Answer as ProbeAnswer, LentText as LentCapture, ProbesText}
 use Rattle.vme_command_line.specs.declared.Job.TheVariants.{Joined, OnScenario}
 use Rattle.vme_command_line.specs.declared.Task.{Task}
-use Rattle.vme_command_line.specs.declared.Work.TheVariants.{OnTrace, OtherOrder, Order, Probe, Run}
+use Rattle.vme_command_line.specs.declared.Work.TheVariants.{OnTrace, OtherOrder, Order, Run}
 use Rattle.vme_program.specs.declared.faults.ProgramFault.{ProgramFault}
 use Rattle.vme_program.specs.Done.{Alone, Does, DoesTask, Fails, Hands, IsDone, Known, OnFile, Stops}
-use Rattle.vme_program.specs.Names.{fault_named, form_of, answer_named, order_answer_named, other_answer_named, probe_answer_named, run_answer_named}
+use Rattle.vme_program.specs.Names.{fault_named, form_of, answer_named, order_answer_named, other_answer_named, run_answer_named}
 
 -- a fault that every engine has
 fault_handed : (Ends : Result Status RunFault → Type 0) (Stops : List ℕ → Fault → Type 0) (Fails : ProgramFault → Type 0) (nothing : Type 0) (name : Bor (List ℕ)) (f : EngineFault) → Ends (Err (run.Engine f))
@@ -100,13 +98,3 @@ order_done scenario moments text slacks places progress form from to old new ans
     by (Err (order.Moments f)) does = (text, from, to, does)
     by (Err (order.NoBoard slot)) does = (text, from, to, does)
     by (Err order.TooManyOrders) does = (text, from, to, does)
-
--- a judgement of a capture
-pub probe_done : (scenario capture : Bor (List ℕ)) (skew : Option ℕ) (text : List ℕ) (from to old new : Known) (answer : ProbeAnswer)
-    → LentCapture text (ReadNothing (streams from to old new) × WroteNothing (streams from to old new)) (ProbesText skew (streams from to old new)) answer
-    → IsDone (OnScenario scenario (Probe capture skew)) old new (probe_answer_named scenario answer)
-probe_done scenario capture skew text from to old new (Ok status) does = (text, from, to, does)
-probe_done scenario capture skew text from to old new (Err (probe.Engine f)) does =
-    fault_handed (Does (OnScenario scenario (Probe capture skew)) old new) (Stops (OnScenario scenario (Probe capture skew))) (Fails (OnScenario scenario (Probe capture skew)) old new) (Keeps old new) scenario f (text, from, to, does) (λ h. absurd h.3.3.2) (λ h. h.3.1.1)
-probe_done scenario capture skew text from to old new (Err (probe.Capture f)) does = (text, from, to, does)
-probe_done scenario capture skew text from to old new (Err probe.TooManyOrders) does = (text, from, to, does)

@@ -1,10 +1,13 @@
 use Rattle.std.proofs.Common.{◌∷◌, [], ◌++◌, ◌∙◌, All, IsTrue, ap, if◌then◌else◌, is_ok, subst, sym}
 use Rattle.std.proofs.lemmas.Result.{err_from_is_err_and}
+use Rattle.std.specs.Io.KnownBytes.{Appends}
+use Rattle.vme_model.specs.declared.signals.Edge.{Edge}
 use Rattle.vme_model.specs.History.{in_order}
 use Rattle.vme_model.specs.Report.{at_power_up, trace_limit}
 use Rattle.vme_model.specs.Signals.{is_well_formed}
 use Rattle.vme_model.specs.Text.{text}
 use Rattle.vme_model.specs.Verdict.{State, verdict}
+use Rattle.vme_trace.specs.Writing.{AppendsFront}
 use Rattle.vme_reading.specs.declared.Status.TheVariants.{Done, SomeRefused}
 use Rattle.vme_shrink.proofs.WrittenStories.{story_cut, story_formed, story_text}
 use Rattle.vme_shrink.proofs.fronts.write_story.Goals as goal
@@ -25,7 +28,10 @@ returns-in_err-write_trace g c = λ p v before is.
     c.in_err-write_trace.ensures.fault
     (story_text p v before c.args.front c.args.edge.now c.in-Ok.story.items c.deref.result.now
     c.version-version.result is c.version-version.ensures c.deref.ensures.value c.in-Ok.ensures)
-    c.in_err-write_trace.ensures.front)
+    (subst (λ (d : Edge). AppendsFront (g.W.Write.contents c.args.out.now)
+    (g.W.Write.contents c.write_trace.new.out)
+    (text c.version-version.result (c.deref.result.now ++ d ∷ []))) c.of.ensures
+    c.in_err-write_trace.ensures.front))
 
 pub returns : goal.returns
 returns g c = λ p v before is. (
@@ -35,5 +41,8 @@ returns g c = λ p v before is. (
   text c.version-version.result (c.deref.result.now ++ c.args.edge.now ∷ []),
   story_text p v before c.args.front c.args.edge.now c.in-Ok.story.items c.deref.result.now
       c.version-version.result is c.version-version.ensures c.deref.ensures.value c.in-Ok.ensures,
-  c.in_ok-write_trace.ensures.ok,
+  subst (λ (d : Edge). Appends (g.W.Write.contents c.args.out.now)
+      (g.W.Write.contents c.write_trace.new.out)
+      (text c.version-version.result (c.deref.result.now ++ d ∷ []))) c.of.ensures
+      c.in_ok-write_trace.ensures.ok,
 )
