@@ -1,5 +1,5 @@
 -- A command that writes lines at each edge of a trace, and last lines at its end.
-use Rattle.std.proofs.Common.{◌≡◌, inl, inr, ◌⊎◌, ◌+◌, ◌<◌, ◌++◌, ◌∷◌, [], ℕ, Bool, true, false, List, Option, Some, None, Result, Ok, Err, drop, get_or, length, take, refl, sym, ◌∙◌, ap, append_assoc, subst, arith}
+use Rattle.std.proofs.Common.{◌≡◌, inl, inr, ◌+◌, ◌<◌, ◌++◌, ◌∷◌, [], ℕ, Bool, false, List, Option, Some, None, Result, Ok, Err, drop, get_or, length, take, refl, sym, ◌∙◌, ap, append_assoc, subst}
 use Rattle.std.specs.Io.KnownBytes.{Appends, Keeps}
 use Rattle.std.proofs.KnownBytes.{Appends-kept, Appends-nil}
 use Rattle.std.proofs.lemmas.List.{take-append-drop}
@@ -9,18 +9,17 @@ use Rattle.vme_model.specs.Plan.{Plan}
 use Rattle.vme_model.specs.Text.{read_of}
 use Rattle.vme_trace.specs.declared.Fault.{Fault}
 use Rattle.vme_trace.specs.declared.Fault.TheVariants.{Write}
-use Rattle.vme_trace.specs.Writing.{AppendsFront}
 use Rattle.vme_reading.specs.declared.Status.{Status}
 use Rattle.vme_reading.specs.Streams.{Streams, WroteNothing, streams}
 use Rattle.vme_reading.specs.Streams as stream
-use Rattle.vme_reading.specs.Outcomes.{bench, refused_count, status_of, status_with}
+use Rattle.vme_reading.specs.Outcomes.{refused_count, status_with}
 use Rattle.vme_reading.specs.Begun.{IsUnread}
 use Rattle.vme_reading.specs.Pieces.{Came}
 use Rattle.vme_reading.specs.Readings.{LeavesNow}
 use Rattle.vme_reading.specs.Waiting.{StopsWaiting}
-use Rattle.vme_reading.specs.Reporting.{AreLinesAt, HasWritten, HasWrittenFront, IsTextOf, ReportsEach, StopsAmong, StopsAt, StopsBetween, Writes}
+use Rattle.vme_reading.specs.Reporting.{AreLinesAt, HasWritten, HasWrittenFront, IsTextOf, ReportsEach, StopsAmong, StopsAt, Writes}
 use Rattle.vme_reading.proofs.ReadOn.{came_begins}
-use Rattle.vme_reading.proofs.SoughtEdges.{next_list, split_at}
+use Rattle.vme_reading.proofs.SoughtEdges.{next_list}
 use Rattle.vme_reading.proofs.Waits.{stops_unread, waits_now}
 use Rattle.vme_reading.proofs.WrittenLines.{front_kept}
 
