@@ -4,3 +4,5 @@ pub mod ArrayTables
 pub mod Paths
 -- texts that are too deep or not UTF-8, and the others: `scenario::document`
 pub mod Documents
+-- bytes that change no place of a text: `depth::Place::stays_at`
+pub mod Fillers

@@ -1,5 +1,5 @@
 -- What the faults that borrow the text stand for, and the draft of a plan.
-use Rattle.std.specs.Prelude.{◌≡◌, ⊤, ℕ, List, map, Result, Ok, Err, String, codes, decimal}
+use Rattle.std.specs.Prelude.{◌≡◌, ◌==◌, ◌||◌, ⊤, ℕ, Bool, not, List, map, Result, Ok, Err, String, codes, decimal}
 use Rattle.std.specs.Borrow.{Bor}
 use Rattle.std.specs.BTreeMap.{BTreeMap}
 use Rattle.std.specs.declared.alloc.Global.{Global}
@@ -80,3 +80,8 @@ placed p = record {
   held = p.held;
   outer = p.outer.items;
 }
+
+-- a byte that changes no place outside of strings and comments
+abbrev pub is_filler : ℕ → Bool
+is_filler c = not (c == 34 || c == 39 || c == 35 || c == 46 || c == 61 || c == 91 || c == 123
+    || c == 93 || c == 125 || c == 44 || c == 10)

@@ -3,7 +3,7 @@
 ghost use Rattle.std.specs.Prelude.{◌≡◌, ◌<◌, ◌≤◌, true, false};
 ghost use Rattle.arrayvec.specs.ArrayVec.{array_vec_len};
 ghost use Rattle.vme_scenario.specs.Depth as spec;
-ghost use Rattle.vme_scenario.specs.Borrowed.{placed};
+ghost use Rattle.vme_scenario.specs.Borrowed.{is_filler, placed};
 
 use arrayvec::ArrayVec;
 
@@ -100,6 +100,17 @@ fn mode_after(mode: Mode, byte: u8) -> Mode
     }
 }
 
+/// Whether a byte outside of strings and comments changes no place: it begins none of them, and is
+/// no part of a key's path, a table or an array.
+fn is_filler(byte: u8) -> bool
+    ensures { result ≡ is_filler byte }
+{
+    !matches!(
+        byte,
+        b'"' | b'\'' | b'#' | b'.' | b'=' | b'[' | b'{' | b']' | b'}' | b',' | b'\n'
+    )
+}
+
 impl Place {
     /// The place of the first byte.
     fn front() -> Place
@@ -181,11 +192,26 @@ impl Place {
         }
     }
 
+    /// Whether the next byte changes nothing, as most do not.
+    #[tactic(auto, using(crate::proofs::Fillers::filler_stays, crate::proofs::Fillers::comment_stays))]
+    fn stays_at(&self, byte: u8) -> bool
+        ensures { result ≡ true → spec.behind (placed self.now) byte ≡ placed self.now }
+    {
+        match self.mode {
+            Mode::Plain => is_filler(byte),
+            Mode::Comment => byte != b'\n',
+            _ => false,
+        }
+    }
+
     /// Takes the next byte.
     fn take(&mut self, byte: u8)
         requires { (self.old.here ≤ 80) × (array_vec_len self.old.outer ≤ 80) }
         ensures { placed self.new ≡ spec.behind (placed self.old) byte }
     {
+        if self.stays_at(byte) {
+            return;
+        }
         self.mode = mode_after(self.mode, byte);
         if matches!(self.mode, Mode::Plain) {
             self.take_outside(byte);
