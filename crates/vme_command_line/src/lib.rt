@@ -657,7 +657,7 @@ fn asked<'a>(alloc: Global, words: &'a [&'a str]) -> Result<Result<Job<'a>, Unfi
         (λ met. IsUnfit met.0 met.1 unfit))) }
     ensures fault { FailsBy (fault_of commands_said (texts_of words.entry.now)) result }
 {
-    match asked_of_one(alloc, words) {
+    match asked_of_one(alloc, words)? {
         Some(job) => Ok(job),
         None => Ok(job_in(alloc, &parsed(alloc, words)?)),
     }

@@ -1,6 +1,6 @@
 //! A command line of the one command that the first word names: the others need not be built.
-ghost use Rattle.std.specs.Prelude.{◌≡◌, [], Some, IfErr, IfOk, IfSome, IsSomeAnd};
-ghost use Rattle.clap.specs.Words.{fault_of, shape_of, subcommand_of};
+ghost use Rattle.std.specs.Prelude.{◌≡◌, [], ◌∷◌, None, Some, IfErr, IfOk, IfSome, IsSomeAnd};
+ghost use Rattle.clap.specs.Words.{Text, fault_of, found_of, kind_of, rows_of, shape_of, subcommand_of};
 ghost use Rattle.vme_command_line.specs.Asked.{AsksFor, texts_of};
 ghost use Rattle.vme_command_line.specs.Commands.{command_named as named, commands as commands_said};
 ghost use Rattle.vme_command_line.specs.Limits.{IsWithin};
@@ -12,7 +12,8 @@ use crate::commands::{
 };
 use crate::names::job_of;
 use crate::{Job, Unfit};
-use clap::Command;
+use clap::error::ErrorKind;
+use clap::{ArgMatches, Command, Error};
 use std::alloc::{AllocError, Global};
 
 /// A command that may be refused memory.
@@ -69,27 +70,56 @@ fn command_named<'a>(alloc: Global, name: &str) -> Option<Building<'a>>
     }
 }
 
+/// What a command alone makes of the words after its name.
+fn read_alone<'a>(command: Building<'a>, words: &'a [&'a str]) -> Result<ArgMatches<'a>, Error>
+    ensures { IfOk result (λ m. (name : Text)
+        → IfOk command.entry (λ c. named name ≡ Some (shape_of c))
+        → (subcommand_of commands_said (name ∷ texts_of words.entry.now)
+        ≡ Some (name, rows_of (found_of m)))
+        × (fault_of commands_said (name ∷ texts_of words.entry.now) ≡ [])) }
+{
+    command?.no_binary_name(true).try_get_matches_from(words)
+}
+
+/// Nothing, unless memory ran out.
+fn nothing_at<T>(error: Error) -> Result<Option<T>, Error>
+    ensures nothing { IfOk result (λ found. found ≡ None) }
+    ensures memory { IfErr result (λ printed. kind_of printed ≡ ErrorKind.OutOfMemory) }
+{
+    match error.kind() {
+        ErrorKind::OutOfMemory => Err(error),
+        _ => Ok(None),
+    }
+}
+
 /// The job for which words ask, or why they ask for none, if the first word names a command that
 /// takes the others. If it gives nothing, the whole command line says what is wrong.
+///
+/// # Errors
+/// Memory ran out.
 pub(crate) fn asked_of_one<'a>(
     alloc: Global,
     words: &'a [&'a str],
-) -> Option<Result<Job<'a>, Unfit<'a>>>
-    ensures within { IfSome result (λ job. IfOk job IsWithin) }
-    ensures asked { IfSome result (λ job. IfOk job (λ found.
+) -> Result<Option<Result<Job<'a>, Unfit<'a>>>, Error>
+    ensures within { IfOk result (λ it. IfSome it (λ job. IfOk job IsWithin)) }
+    ensures asked { IfOk result (λ it. IfSome it (λ job. IfOk job (λ found.
         IsSomeAnd (subcommand_of commands_said (texts_of words.entry.now))
-        (λ met. AsksFor met.0 met.1 found))) }
-    ensures unfit { IfSome result (λ job. IfErr job (λ unfit.
+        (λ met. AsksFor met.0 met.1 found)))) }
+    ensures unfit { IfOk result (λ it. IfSome it (λ job. IfErr job (λ unfit.
         IsSomeAnd (subcommand_of commands_said (texts_of words.entry.now))
-        (λ met. IsUnfit met.0 met.1 unfit))) }
-    ensures taken { IfSome result (λ _.
-        fault_of commands_said (texts_of words.entry.now) ≡ []) }
+        (λ met. IsUnfit met.0 met.1 unfit)))) }
+    ensures taken { IfOk result (λ it. IfSome it (λ _.
+        fault_of commands_said (texts_of words.entry.now) ≡ [])) }
+    ensures memory { IfErr result (λ error. kind_of error ≡ ErrorKind.OutOfMemory) }
 {
-    let (name, operands) = words.split_first()?;
-    let command = command_named(alloc, name)?.ok()?;
-    let matches = command
-        .no_binary_name(true)
-        .try_get_matches_from(operands)
-        .ok()?;
-    Some(job_of(alloc, name, &matches))
+    let Some((name, operands)) = words.split_first() else {
+        return Ok(None);
+    };
+    let Some(command) = command_named(alloc, name) else {
+        return Ok(None);
+    };
+    match read_alone(command, operands) {
+        Ok(matches) => Ok(Some(job_of(alloc, name, &matches))),
+        Err(error) => nothing_at(error),
+    }
 }

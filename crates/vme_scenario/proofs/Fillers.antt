@@ -1,11 +1,12 @@
 -- Bytes that change no place of a text.
-use Rattle.std.proofs.Common.{◌≡◌, ◌≢◌, ◌==◌, ◌||◌, ◌×◌, ◌∙◌, ℕ, Bool, true, false, not, ne_eqb, refl, sym, ap}
+use Rattle.std.proofs.Common.{◌≡◌, ◌≢◌, ◌==◌, ◌||◌, ◌∙◌, ℕ, Bool, true, false, not, ne_eqb, refl, sym, ap}
 use Rattle.vme_scenario.specs.Borrowed.{is_filler}
 use Rattle.vme_scenario.specs.Depth.{Place, behind}
 use Rattle.vme_scenario.specs.declared.depth.Mode.TheVariants.{Comment, Plain}
 
-neither : (a b : Bool) → not (a || b) ≡ true → (a ≡ false) × (not b ≡ true)
-neither false b e = (refl, e)
+neither : (a b : Bool) → not (a || b) ≡ true → (not a ≡ true) × (b ≡ false)
+neither false false e = (refl, refl)
+neither false true e = cc
 neither true b e = cc
 
 is_false : (b : Bool) → not b ≡ true → b ≡ false
@@ -14,18 +15,18 @@ is_false true e = cc
 
 filler_keeps : (p : Place) (c : ℕ) → is_filler c ≡ true → behind (record p { mode = Plain }) c ≡ record p { mode = Plain }
 filler_keeps p c filler =
-    let quote = neither _ _ filler in
-    let apostrophe = neither _ _ quote.1 in
-    let hash = neither _ _ apostrophe.1 in
-    let dot = neither _ _ hash.1 in
-    let equals = neither _ _ dot.1 in
-    let bracket = neither _ _ equals.1 in
-    let brace = neither _ _ bracket.1 in
-    let close_bracket = neither _ _ brace.1 in
-    let close_brace = neither _ _ close_bracket.1 in
-    let comma = neither _ _ close_brace.1 in
-    let feed = is_false _ comma.1 in
-    rw (quote.0, apostrophe.0, hash.0, dot.0, equals.0, bracket.0, brace.0, close_bracket.0, close_brace.0, comma.0, feed) refl
+    let feed = neither (c == 34 || c == 39 || c == 35 || c == 46 || c == 61 || c == 91 || c == 123 || c == 93 || c == 125 || c == 44) (c == 10) filler in
+    let comma = neither (c == 34 || c == 39 || c == 35 || c == 46 || c == 61 || c == 91 || c == 123 || c == 93 || c == 125) (c == 44) feed.0 in
+    let close_brace = neither (c == 34 || c == 39 || c == 35 || c == 46 || c == 61 || c == 91 || c == 123 || c == 93) (c == 125) comma.0 in
+    let close_bracket = neither (c == 34 || c == 39 || c == 35 || c == 46 || c == 61 || c == 91 || c == 123) (c == 93) close_brace.0 in
+    let brace = neither (c == 34 || c == 39 || c == 35 || c == 46 || c == 61 || c == 91) (c == 123) close_bracket.0 in
+    let bracket = neither (c == 34 || c == 39 || c == 35 || c == 46 || c == 61) (c == 91) brace.0 in
+    let equals = neither (c == 34 || c == 39 || c == 35 || c == 46) (c == 61) bracket.0 in
+    let dot = neither (c == 34 || c == 39 || c == 35) (c == 46) equals.0 in
+    let hash = neither (c == 34 || c == 39) (c == 35) dot.0 in
+    let apostrophe = neither (c == 34) (c == 39) hash.0 in
+    let quote = is_false (c == 34) apostrophe.0 in
+    rw (quote, apostrophe.1, hash.1, dot.1, equals.1, bracket.1, brace.1, close_bracket.1, close_brace.1, comma.1, feed.1) refl
 
 pub filler_stays : (p : Place) (c : ℕ) → p.mode ≡ Plain → is_filler c ≡ true → behind p c ≡ p
 filler_stays p c plain filler =
