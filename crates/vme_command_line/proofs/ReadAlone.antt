@@ -16,7 +16,8 @@ use Rattle.clap.specs.declared.parser.matches.ArgMatches.{ArgMatches}
 use Rattle.clap.proofs.SimpleLemmas.{leaf_subcommands}
 use Rattle.clap.proofs.WalkLemmas.{both, walk_stopped}
 use Rattle.clap.proofs.FaultLemmas.{leaf_fault, stopped_fault}
-use Rattle.vme_command_line.specs.Commands.{command_named, commands}
+use Rattle.vme_command_line.specs.Commands.{commands}
+use Rattle.vme_command_line.specs.Named.{command_named}
 
 -- a command without the others, and without a word for its own name
 abbrev pub alone : Shape → App

@@ -1,7 +1,6 @@
 -- The command line of the program: which commands it has, which files and options each command
 -- takes, and which of them are required. Only the program itself prints its version.
-use Rattle.std.specs.Prelude.{◌^◌, ◌-◌, ℕ, List, [], ◌∷◌, Option, Some, true, false, codes, find, pos}
-use Rattle.std.specs.Str.{bytes_eq}
+use Rattle.std.specs.Prelude.{◌^◌, ◌-◌, ℕ, List, [], ◌∷◌, Some, true, false, codes, pos}
 use Rattle.vme_model.specs.Report.{trace_limit}
 use Rattle.vme_command_line.specs.Limits.{most_turns}
 use Rattle.clap.specs.Words.{App, Rule, Shape, Text, new_rule}
@@ -171,7 +170,3 @@ commands = record {
       replay ∷ check ∷ explain ∷ shrink ∷ rule ∷ state ∷ show ∷ cycles ∷ summary ∷ races ∷ same
       ∷ order ∷ probe ∷ drive ∷ run ∷ [];
 }
-
--- the command of this name, if there is one
-abbrev pub command_named : Text → Option Shape
-command_named name = find (λ s. bytes_eq s.name name) commands.subs

@@ -2,8 +2,9 @@
 ghost use Rattle.std.specs.Prelude.{◌≡◌, [], ◌∷◌, None, Some, IfErr, IfOk, IfSome, IsSomeAnd};
 ghost use Rattle.clap.specs.Words.{Text, fault_of, found_of, kind_of, rows_of, shape_of, subcommand_of};
 ghost use Rattle.vme_command_line.specs.Asked.{AsksFor, texts_of};
-ghost use Rattle.vme_command_line.specs.Commands.{command_named as named, commands as commands_said};
+ghost use Rattle.vme_command_line.specs.Commands.{commands as commands_said};
 ghost use Rattle.vme_command_line.specs.Limits.{IsWithin};
+ghost use Rattle.vme_command_line.specs.Named.{command_named as named};
 ghost use Rattle.vme_command_line.specs.Unfits.{IsUnfit};
 
 use crate::commands::{
@@ -81,6 +82,15 @@ fn read_alone<'a>(command: Building<'a>, words: &'a [&'a str]) -> Result<ArgMatc
     command?.no_binary_name(true).try_get_matches_from(words)
 }
 
+/// The job for the operands of a command of that name.
+fn job_with<'a>(alloc: Global, name: &str, operands: ArgMatches<'a>) -> Result<Job<'a>, Unfit<'a>>
+    ensures within { IfOk result IsWithin }
+    ensures asked { IfOk result (AsksFor name.now (rows_of (found_of operands.entry))) }
+    ensures unfit { IfErr result (IsUnfit name.now (rows_of (found_of operands.entry))) }
+{
+    job_of(alloc, name, &operands)
+}
+
 /// Nothing, unless memory ran out.
 fn nothing_at<T>(error: Error) -> Result<Option<T>, Error>
     ensures nothing { IfOk result (λ found. found ≡ None) }
@@ -112,14 +122,14 @@ pub(crate) fn asked_of_one<'a>(
         fault_of commands_said (texts_of words.entry.now) ≡ [])) }
     ensures memory { IfErr result (λ error. kind_of error ≡ ErrorKind.OutOfMemory) }
 {
-    let Some((name, operands)) = words.split_first() else {
+    let Some((name, others)) = words.split_first() else {
         return Ok(None);
     };
     let Some(command) = command_named(alloc, name) else {
         return Ok(None);
     };
-    match read_alone(command, operands) {
-        Ok(matches) => Ok(Some(job_of(alloc, name, &matches))),
+    match read_alone(command, others) {
+        Ok(operands) => Ok(Some(job_with(alloc, name, operands))),
         Err(error) => nothing_at(error),
     }
 }
