@@ -82,15 +82,6 @@ fn read_alone<'a>(command: Building<'a>, words: &'a [&'a str]) -> Result<ArgMatc
     command?.no_binary_name(true).try_get_matches_from(words)
 }
 
-/// The job for the operands of a command of that name.
-fn job_with<'a>(alloc: Global, name: &str, operands: ArgMatches<'a>) -> Result<Job<'a>, Unfit<'a>>
-    ensures within { IfOk result IsWithin }
-    ensures asked { IfOk result (AsksFor name.now (rows_of (found_of operands.entry))) }
-    ensures unfit { IfErr result (IsUnfit name.now (rows_of (found_of operands.entry))) }
-{
-    job_of(alloc, name, &operands)
-}
-
 /// Nothing, unless memory ran out.
 fn nothing_at<T>(error: Error) -> Result<Option<T>, Error>
     ensures nothing { IfOk result (λ found. found ≡ None) }
@@ -128,8 +119,9 @@ pub(crate) fn asked_of_one<'a>(
     let Some(command) = command_named(alloc, name) else {
         return Ok(None);
     };
-    match read_alone(command, others) {
-        Ok(operands) => Ok(Some(job_with(alloc, name, operands))),
-        Err(error) => nothing_at(error),
-    }
+    let operands = match read_alone(command, others) {
+        Ok(operands) => operands,
+        Err(error) => return nothing_at(error),
+    };
+    Ok(Some(job_of(alloc, name, &operands)))
 }
