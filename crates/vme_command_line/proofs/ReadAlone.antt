@@ -5,12 +5,13 @@ use Rattle.std.specs.Option.{option_map_or}
 use Rattle.std.specs.Str.{bytes_eq}
 use Rattle.std.proofs.lemmas.Slice.Eq.{bytes_eq-Decides}
 use Rattle.vme_trace.proofs.AllEdges.{In, find_in}
-use Rattle.clap.specs.Words.{App, FailsBy, HasMatchesOf, Shape, Text, app_of, fault_of, fields_of, found_of, is_simple, is_simple_and_free, matches_of, rows_of, shape_of, subcommand_of}
+use Rattle.clap.specs.Words.{App, FailsBy, HasMatchesOf, Shape, Text, app_of, fault_of, found_of, is_simple, is_simple_and_free, matches_of, rows_of, shape_of, subcommand_of}
 use Rattle.clap.specs.Walk.{Names, Walk, after_step, answers_to, finished, idle, nothing_held, rows_after, settled, subcommand_met, subcommand_or_other, walk, walk_from, walked}
 use Rattle.clap.specs.Simple.{app_of_fields, built, entered, label_of, names_of, rows_at}
 use Rattle.clap.specs.Kinds.{Kinds, or_else}
 use Rattle.clap.specs.Faults.{built_fault, check_fault, defaults_fault, entered_fault, level_fault, other_fault, settle_fault, step_fault, turn_fault, walk_fault}
 use Rattle.clap.specs.declared.builder.command.Command.{Command}
+use Rattle.clap.specs.declared.builder.command.Command.TheViews.{out-Command as fields_of}
 use Rattle.clap.specs.declared.error.Error.{Error}
 use Rattle.clap.specs.declared.parser.matches.ArgMatches.{ArgMatches}
 use Rattle.clap.proofs.SimpleLemmas.{leaf_subcommands}
@@ -56,21 +57,46 @@ one_stands (x ∷ xs) s each (inr within) = one_stands xs s each.1 within
 each_stands : Each commands.subs
 each_stands = (
   (refl, refl, refl, refl, refl, refl, refl),
-  (refl, refl, refl, refl, refl, refl, refl),
-  (refl, refl, refl, refl, refl, refl, refl),
-  (refl, refl, refl, refl, refl, refl, refl),
-  (refl, refl, refl, refl, refl, refl, refl),
-  (refl, refl, refl, refl, refl, refl, refl),
-  (refl, refl, refl, refl, refl, refl, refl),
-  (refl, refl, refl, refl, refl, refl, refl),
-  (refl, refl, refl, refl, refl, refl, refl),
-  (refl, refl, refl, refl, refl, refl, refl),
-  (refl, refl, refl, refl, refl, refl, refl),
-  (refl, refl, refl, refl, refl, refl, refl),
-  (refl, refl, refl, refl, refl, refl, refl),
-  (refl, refl, refl, refl, refl, refl, refl),
-  (refl, refl, refl, refl, refl, refl, refl),
-  tt,
+  (
+    (refl, refl, refl, refl, refl, refl, refl),
+    (
+      (refl, refl, refl, refl, refl, refl, refl),
+      (
+        (refl, refl, refl, refl, refl, refl, refl),
+        (
+          (refl, refl, refl, refl, refl, refl, refl),
+          (
+            (refl, refl, refl, refl, refl, refl, refl),
+            (
+              (refl, refl, refl, refl, refl, refl, refl),
+              (
+                (refl, refl, refl, refl, refl, refl, refl),
+                (
+                  (refl, refl, refl, refl, refl, refl, refl),
+                  (
+                    (refl, refl, refl, refl, refl, refl, refl),
+                    (
+                      (refl, refl, refl, refl, refl, refl, refl),
+                      (
+                        (refl, refl, refl, refl, refl, refl, refl),
+                        (
+                          (refl, refl, refl, refl, refl, refl, refl),
+                          (
+                            (refl, refl, refl, refl, refl, refl, refl),
+                            ((refl, refl, refl, refl, refl, refl, refl), tt),
+                          ),
+                        ),
+                      ),
+                    ),
+                  ),
+                ),
+              ),
+            ),
+          ),
+        ),
+      ),
+    ),
+  ),
 )
 
 -- the walk stops at the name
