@@ -11,8 +11,8 @@ Where to begin: rules.py has G1 to G26 and S1 to S4, and bus.py the words in whi
 - cycles.py: the transactions of a trace;
 - swaps.py, races.py and same.py: which orders of edges matter;
 - moments.py and order.py: a legal order of edges that were seen at the same moments;
-- captures.py, standings.py, obstacles.py and probe.py: what an analyser saw, and what can be known of the bus by it;
-- witnesses.py: the same by all legal lists of edges, for tiny backplanes;
+- captures.py, standings.py, samples.py, obstacles.py and probe.py: what an analyser saw, and what can be known of the bus by it;
+- witnesses.py and sample_witnesses.py: the same by all legal lists of edges, for tiny backplanes;
 - drive.py and draw.py: traces that the program makes, in rounds and by a seed, and reach.py: goals that never come;
 - embedded.py: what a program in C sees of the bus;
 - words.py, program.py and faults.py: the command line, files and streams, and what ends a command;

@@ -16,6 +16,7 @@ LINES = (*REQUESTS, *INTERRUPTS, "BBSY", "AS", "DS", "DTACK", "BERR", "BCLR")
 MAY_BE_LOW = tuple(it for it in LINES if it not in ("AS", "DS"))
 SLOTS = range(1, 22)
 ACCESS = Cycle(False, None)  # an access, of a slot that is not known
+MOST_IN_A_SAMPLE = 12
 
 
 class Wire(NamedTuple):
@@ -155,6 +156,22 @@ class Capture:
                 raise Fault(f"X10 line {number} is of an earlier moment")
             else:
                 self.moment = named
+
+    def samples(self, skew):
+        """The changes by samples, each of which is there once a change behind it has been read; without a skew, one by one."""
+        sample = []
+        for change in self:
+            if skew is None:
+                yield [change]
+                continue
+            if sample and change.moment - sample[-1].moment > skew:
+                yield sample
+                sample = []
+            if len(sample) == MOST_IN_A_SAMPLE:
+                raise Fault("F5 too many orders")
+            sample.append(change)
+        if sample:
+            yield sample
 
 
 def no_line(number):

@@ -18,7 +18,8 @@ from .captures import ACCESS, CYCLES, LINES, PINS, Kind, text_of, wire_of
 from .cases import Kept
 from .drawing import legal_edge, near_edge, some, spoiled_trace
 from .drawn import SECONDS, difference
-from .drawn_moments import plan_drawn, with_more_moments
+from .drawn_moments import TOO_MANY, plan_drawn, with_more_moments
+from .drawn_samples import Samples
 from .moments import GREATEST
 from .program import main
 from .traces import name_of
@@ -169,16 +170,6 @@ def faulty(draw, text, pins):
     return "".join(f"{line}\n" for line in lines)
 
 
-def moments_drawn(draw, count):
-    """The moments of some changes, in order."""
-    step, moment, moments = draw.choice([0, 1, 1, 40]), 0, []
-    for _ in range(count):
-        moments.append(moment)
-        moment += draw.choice([0, 1, step, 2 * step])
-    first = draw.choice([0, 0, 1, draw.randrange(10_000), GREATEST - moment])
-    return [first + it for it in moments]
-
-
 class DrawnCapture:
     """One draw: a scenario and a capture, and who made each change if it is not spoiled."""
 
@@ -198,13 +189,15 @@ class DrawnCapture:
         shown = shown_by_run(draw, bus, wires, most % 1000, draw.randrange(most + 1) if way == "forced" else None)
         if most > 1000:  # AS* or DS* stayed low: no capture begins so
             low, shown, way = low - {"AS", "DS"}, [], "spoiled"
-        self.is_legal, self.drivers = way == "legal", [driver for _, driver in shown]
         kinds = [it._replace(of=wires.get(it.of, it.of)) for it, _ in shown]
         kinds = list(told_less(draw, kinds))
         if way == "spoiled":
             kinds = spoiled(draw, kinds, self.pins, {wires.get(it, it) for it in low})
+        self.samples, self.is_legal = Samples(draw, kinds), way == "legal"
+        self.words = WORDS + self.samples.words
+        self.drivers = [shown[it][1] for it in self.samples.order] if self.is_legal else []
         spelled = [str(wires.get(it, it)) for it in low]
-        timed = zip(kinds, moments_drawn(draw, len(kinds)))
+        timed = zip((kinds[it] for it in self.samples.order), self.samples.moments)
         text = text_of(3 - version if way == "other rules" else version, self.pins, self.low_drawn(draw, spelled), timed)
         text = with_more_moments(draw, text) if some(draw, 0.3) else text
         self.capture = faulty(draw, text, self.pins) if way == "faulty" else text
@@ -225,15 +218,15 @@ class DrawnCapture:
     def answer(self, folder):
         """The model's status and console."""
         console = Kept(folder)
-        return main([it.encode() for it in WORDS], console), console
+        return main([it.encode() for it in self.words], console), console
 
     def fault_in(self, status, console):
         """What the model says wrong of a capture that is not spoiled, None where nothing is."""
         lines = console.output.decode().splitlines()
         if not self.is_legal:
             return None
-        if status != 0:
-            return f"a legal list of edges is told to be impossible: {lines[-1:]}"
+        if (status, console.told) != ((1, TOO_MANY) if self.samples.has_too_many() else (0, b"")):
+            return f"a legal list of edges has status {status}: {lines[-1:]}, {console.told}"
         for line, driver in zip(lines, self.drivers):
             if name_of(driver) not in line.partition(" by ")[2].split():
                 return f"{name_of(driver)} made a change, and is not named: {line}"
@@ -243,11 +236,11 @@ class DrawnCapture:
 # A program beside the model
 
 
-def fault_of_program(program, folder, status, console):
+def fault_of_program(program, words, folder, status, console):
     """What differs between a run of the program and the model."""
     try:
-        ran = subprocess.run([program, *WORDS], input=b"", capture_output=True, cwd=folder, timeout=SECONDS)
-        return difference(WORDS, ran, status, console)
+        ran = subprocess.run([program, *words], input=b"", capture_output=True, cwd=folder, timeout=SECONDS)
+        return difference(words, ran, status, console)
     except subprocess.TimeoutExpired:
         return f"it had not ended after {SECONDS} seconds"
 
@@ -263,7 +256,7 @@ def compare(program, count, seed):
             drawn.lay_out(folder)
             status, console = drawn.answer(folder)
             counts.update(counted(drawn, status, console))
-            fault = drawn.fault_in(status, console) or (program and fault_of_program(program, folder, status, console))
+            fault = drawn.fault_in(status, console) or (program and fault_of_program(program, drawn.words, folder, status, console))
         passed, failed = passed + (not fault), failed + bool(fault)
         if fault:
             print(f"FAILED seed {number}: {fault}")
@@ -275,7 +268,8 @@ def compare(program, count, seed):
 
 def counted(drawn, status, console):
     """What a draw is counted as."""
-    lines = console.output.decode().splitlines()
+    lines, sizes = console.output.decode().splitlines(), drawn.samples.sizes
+    yield from ("samples of 2 to 12 changes" for size in sizes if drawn.is_legal and 1 < size < 13)
     named = [it.partition(" by ")[2] for it in lines if it.startswith("@")]
     yield from ("of status %d" % status, "of legal edges") if drawn.is_legal else ("of status %d" % status,)
     yield from ("changes" for it in named if it != "none")
@@ -289,6 +283,7 @@ def counted(drawn, status, console):
 def write_files(seed, folder):
     """Writes the files of a draw, and prints the words of its run."""
     os.makedirs(folder, exist_ok=True)
-    DrawnCapture(int(seed)).lay_out(folder)
-    print(" ".join(WORDS))
+    drawn = DrawnCapture(int(seed))
+    drawn.lay_out(folder)
+    print(" ".join(drawn.words))
     return 0

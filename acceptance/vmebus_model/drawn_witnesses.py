@@ -3,7 +3,9 @@
 A capture is drawn, and its changes are taken one by one by the record and by the set of all ways in which the bus can stand
 behind a legal list that shows the changes so far.  At each place every change that the lines allow is looked at: who may have
 made it behind such a list has to be named; a change that is told to be impossible has to be so; and of each condition that is
-told no such list may meet it and those before it.
+told no such list may meet it and those before it.  In more than half of the captures the changes are taken by samples, whose
+orders all count: who made a change in a list that shows the whole sample has to be named, and a sample that is told to be
+impossible has to be so.
 """
 
 import random
@@ -12,9 +14,12 @@ from collections import Counter
 from .bus import Bus
 from .captures import ACCESS, INTERRUPTS, REQUESTS, Change, wire_of
 from .drawing import plan_of, some
-from .drawn_captures import pins_drawn, run_to_the_middle, shown_by_run, spoiled, told_less
+from .drawn_captures import pins_drawn, run_to_the_middle, shown_by_run, spoiled, that_change, told_less
+from .drawn_samples import places_drawn
 from .obstacles import conditions
 from .probe import grants, next_changes, pullers
+from .sample_witnesses import SampleWitnesses, TooMany
+from .samples import Sample, next_places
 from .standings import Probed, behind
 from .witnesses import Space, Witnesses, agrees, holds, low_of
 
@@ -144,6 +149,25 @@ class Beside:
         self.counts["impossible and told"] += not able
         return bool(able) and bool(self.stands)
 
+    def take_sample(self, changes):
+        """Goes on by a sample; False if it is impossible, or has no witness."""
+        sample, exact = Sample(self.probed, self.record, changes), SampleWitnesses(self.witnesses, self.stands, changes, MOST_WITNESSES)
+        if not exact.stands.keys() <= sample.records.keys():
+            raise Broken(f"of {[it.text for it in changes]} too few can have come first")
+        self.record, self.stands, told = sample.record(), exact.at_end(), sample.drivers()
+        for place, true in exact.drivers().items():
+            if not true <= told[place]:
+                raise Broken(f"{changes[place].text} of a sample is made by {sorted(true)}, and told of {sorted(told[place])}")
+            self.counts["wider in a sample"] += true != told[place]
+        self.counts["samples"] += 1
+        self.counts["samples impossible"] += not self.stands
+        self.counts["samples impossible and told"] += not sample.is_possible()
+        if not sample.is_possible():
+            self.buses = [self.space.bus(it) for it in list(exact.stands.get(sample.placed(), ()))[:MOST_READ]]
+            for place in next_places(changes, sample.placed()):
+                self.look_at_conditions(changes[place], set())
+        return sample.is_possible() and bool(self.stands)
+
 
 def changes_drawn(draw, bus, wires):
     """Changes that may be seen from here on, some of them wrong."""
@@ -152,6 +176,17 @@ def changes_drawn(draw, bus, wires):
     kinds = list(told_less(draw, (it for it, _ in shown)))
     kinds = spoiled(draw, kinds, list(wires)) if some(draw, 0.3) else kinds
     return [Change(*it, 0, str(it)) for it in kinds]
+
+
+def samples_drawn(draw, changes):
+    """The changes one by one, or by samples of a few, each shuffled."""
+    most, sizes = draw.choice([1, 1, 2, 3, 4]), []
+    while sum(sizes) < len(changes):
+        sizes.append(min(draw.randint(1, most), len(changes) - sum(sizes)))
+    order = places_drawn(draw, sizes, changes)
+    for size in sizes:
+        yield [changes[it] for it in order[:size]]
+        order = order[size:]
 
 
 def look_at(draw, space, counts):
@@ -165,14 +200,15 @@ def look_at(draw, space, counts):
     beside = Beside(draw, space, wires, counts)
     beside.begin(bus, is_running)
     counts["captures"] += 1
-    for change in changes_drawn(draw, bus, wires):
+    for changes in samples_drawn(draw, changes_drawn(draw, bus, wires)):
         if not beside.hide():
-            counts["captures with too many witnesses"] += 1
-            return
+            raise TooMany
         beside.look()
-        if (change.of in beside.record.low) == change.falls or not beside.take(change):
+        if len(list(that_change(changes, beside.record.low))) < len(changes):
             return
-        counts["changes"] += 1
+        if not (beside.take(*changes) if len(changes) == 1 else beside.take_sample(changes)):
+            return
+        counts["changes"] += len(changes)
 
 
 def compare(count, seed):
@@ -187,6 +223,9 @@ def compare(count, seed):
         for _ in range(CAPTURES):
             try:
                 look_at(draw, space, counts)
+                passed += 1
+            except TooMany:
+                counts["captures with too many witnesses"] += 1
                 passed += 1
             except Broken as broken:
                 failed += 1

@@ -3,11 +3,12 @@
 from .backplane import CHAINS
 from .captures import ACCESS, INTERRUPTS, LINES, REQUESTS, Capture, Change, name_of_cycle
 from .obstacles import obstacles
+from .samples import Sample, next_places
 from .standings import HIGH, Probed, behind
 from .traces import Cycle, name_of
 
 
-def probe(plan, read, console):
+def probe(plan, read, options, console):
     """Writes a line for each change that is possible, and then how the bus stands, or what stands in the way; the lines before
     a fault are written first."""
     capture = Capture(plan, read)
@@ -18,21 +19,22 @@ def probe(plan, read, console):
         return 2
     lines = []
     try:
-        return judge(probed, record, capture, lines)
+        return judge(probed, record, capture, options.get("--skew"), lines)
     finally:
         console.write("".join(f"{line}\n" for line in lines))
 
 
-def judge(probed, record, capture, lines):
-    """Adds the lines of the answer, and returns the status; behind a change that is impossible nothing is read."""
+def judge(probed, record, capture, skew, lines):
+    """Adds the lines of the answer, and returns the status; behind a sample that is impossible nothing is read."""
     changes = 0
-    for changes, change in enumerate(capture, 1):
-        before = probed.with_hidden(record)
-        able, record = behind(probed, before, change)
-        if not able:
-            lines += impossible(probed, before, change)
+    for them in capture.samples(skew):
+        sample = Sample(probed, record, them)
+        drivers, record = sample.drivers(), sample.record()
+        lines += (f"@{it.moment} {it.text} {by(drivers[place])}" for place, it in enumerate(them) if place in drivers)
+        if not sample.is_possible():
+            lines += impossible(probed, sample)
             return 2
-        lines.append(f"@{change.moment} {change.text} {by(able)}")
+        changes += len(them)
     lines += [f"possible {changes}", *standing(probed, probed.with_hidden(record), capture.wires)]
     return 0
 
@@ -42,12 +44,16 @@ def by(drivers):
     return "by " + " ".join(map(name_of, sorted(drivers)))
 
 
-def impossible(probed, record, change):
-    """The lines of a change that nobody may have made."""
-    lines, is_ours = obstacles(probed, record, change)
-    yield f"@{change.moment} {change.text} by none"
-    yield from lines
-    yield f"impossible @{change.moment}" + (" by our rules alone" if is_ours else "")
+def impossible(probed, sample):
+    """The lines of the changes that nobody may have made behind those of the sample that are placed."""
+    found = []
+    for place in next_places(sample.changes, sample.placed()):
+        change = sample.changes[place]
+        lines, is_ours = obstacles(probed, sample.record(), change)
+        found.append(is_ours)
+        yield f"@{change.moment} {change.text} by none"
+        yield from lines
+    yield f"impossible @{sample.changes[0].moment}" + (" by our rules alone" if any(found) else "")
 
 
 def standing(probed, record, wires):

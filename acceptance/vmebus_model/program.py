@@ -152,7 +152,7 @@ def done(job, console):
     if job.command == "order":
         return order(plan, first, options, console)
     if job.command == "probe":
-        return probe(plan, first, console)
+        return probe(plan, first, options, console)
     if job.command == "same":
         return same(plan, (first, other), trace_names, console)
     trace = Trace(first)

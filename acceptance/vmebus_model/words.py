@@ -29,7 +29,7 @@ COMMANDS = {
     "races": (2, 2, ("--edge", "--other")),
     "same": (3, 3, ()),
     "order": (2, 2, ("--slack", "--where", "--progress")),
-    "probe": (2, 2, ()),
+    "probe": (2, 2, ("--skew",)),
     "rule": (0, 1, ()),
     "drive": (1, 1, ("--edges", "--version", "--seed", "--seeds", "--until", "--of", "--after", "--progress")),
     "run": (1, 1, ("--edges", "--turns", "--version")),
@@ -48,6 +48,7 @@ RANGES = {
     "--after": (0, GREATEST),
     "--seed": (0, GREATEST),
     "--slack": (0, GREATEST),
+    "--skew": (0, GREATEST),
 }
 
 # The drivers as a list of slacks names them.

@@ -182,8 +182,9 @@ AsksForWork name rows (Same trace other) = (name ≡ codes "same")
 AsksForWork name rows (Order moments slacks places progress) =
     (name ≡ codes "order") × IsFile (codes "MOMENTS") rows moments.now
     × AreTheSlacks rows slacks × IsFlag (codes "where") rows places × IsProgress rows progress
-AsksForWork name rows (Probe capture) =
+AsksForWork name rows (Probe capture skew) =
     (name ≡ codes "probe") × IsFile (codes "CAPTURE") rows capture.now
+    × (spelled (codes "skew") rows ≡ skew)
 AsksForWork name rows (Drive edges version choice) =
     (name ≡ codes "drive") × AreOptions rows edges version × IsChoice rows version choice
 AsksForWork name rows (Run edges turns version) = (name ≡ codes "run")

@@ -76,6 +76,9 @@ seed = whole (codes "seed") 0
 abbrev pub seeds : Rule
 seeds = texted (codes "seeds")
 
+abbrev pub skew : Rule
+skew = whole (codes "skew") 0
+
 abbrev pub slack : Rule
 slack = texted (codes "slack")
 
@@ -149,7 +152,7 @@ order =
     (leaf (codes "order") (file (codes "MOMENTS") ∷ slack ∷ places ∷ progress ∷ [])).top
 
 abbrev pub probe : Shape
-probe = (leaf (codes "probe") (file (codes "CAPTURE") ∷ [])).top
+probe = (leaf (codes "probe") (file (codes "CAPTURE") ∷ skew ∷ [])).top
 
 abbrev pub drive : Shape
 drive =

@@ -211,6 +211,14 @@ fn slack_option<'a>(alloc: Global) -> Arg<'a>
     text_option(alloc, "slack", "S", help)
 }
 
+fn skew_option<'a>(alloc: Global) -> Arg<'a>
+    ensures { rule_of result ≡ said.skew }
+{
+    let help =
+        "Changes at most S moments behind the one before have no order, but those of one line";
+    whole_option(alloc, "skew", "S", 0, help)
+}
+
 /// An option without a value.
 fn flag<'a>(alloc: Global, name: &'a str, help: &'a str) -> Arg<'a>
     ensures { rule_of result ≡ said.flag name.entry.now }
@@ -411,7 +419,8 @@ fn probe<'a>(alloc: Global) -> Result<Command<'a>, AllocError>
     ensures { IfOk result (λ c. shape_of c ≡ said.probe) }
 {
     let command = command(alloc, "probe", PROBE, PROBE_USAGE, PROBE_EXAMPLE);
-    taking(command, capture_file(alloc))
+    let command = taking(command, capture_file(alloc));
+    taking(command, skew_option(alloc))
 }
 
 /// The command `drive`.

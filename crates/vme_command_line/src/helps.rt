@@ -344,7 +344,7 @@ A code such as G13 or X2: `vmebus rule CODE` explains it.";
 pub(crate) const PROBE: &str =
     "Says who may have driven what an analyser saw, and whether the rules allow it";
 
-pub(crate) const PROBE_USAGE: &str = "vmebus probe <SCENARIO> <CAPTURE>";
+pub(crate) const PROBE_USAGE: &str = "vmebus probe <SCENARIO> <CAPTURE> [--skew <S>]";
 
 pub(crate) const PROBE_EXAMPLE: &str =
     "An analyser sees the lines that all boards share, and perhaps some pins of the daisy chains. It
@@ -361,6 +361,12 @@ does not see who drives them. CAPTURE has these lines, in this order:
   DTACK- 64           DTACK* fell with the status byte 64; DTACK- if the byte is not known
 The changes happened in the order of their lines. DS is low while DS0* or DS1* is.
 
+With --skew a change at most S behind the one before it belongs to the same sample, and the changes
+of a sample have no order but those of one line or pin. S is the greatest difference of delay of two
+channels of the analyser, in its moments. With --skew 0 the changes below one `@N` have no order. A
+sample has at most 12 changes. It is printed when the first change behind it has been read; a fault
+before that leaves it out.
+
 For each change it prints `@N CHANGE by D ..`: N is its moment, and each D a driver that may have
 made it, c or a slot. At the end of the capture come these lines:
   possible E                 a bus that keeps the rules can show its E changes
@@ -369,7 +375,8 @@ made it, c or a slot. At the end of the capture come these lines:
   shown V by D ..            what AS* fell with, and who may drive it; none while AS* is high
   BR3 low by D ..            who may drive a request line that is low; so for IRQ1 to IRQ7
   may come CHANGE by D ..    a change that may come next, and who may make it
-If no such bus can show a change, these lines come in their place, and nothing is read after it:
+If no such bus can show a change, these lines come in their place, and nothing is read after it;
+of a sample, the changes that could be made come first:
   @N CHANGE by none
       D RULE CONDITION       for each driver of that line or pin: what stood in its way
   impossible @N              or `impossible @N by our rules alone` if what stood in the way of one
@@ -381,7 +388,7 @@ capture is possible, 2 if it is impossible, and 1 at a fault; what was judged be
 printed.
 
 Example:
-  vmebus probe board.toml hang.cap
+  vmebus probe board.toml hang.cap --skew 0
 
 A code such as G13 or X2: `vmebus rule CODE` explains it.";
 

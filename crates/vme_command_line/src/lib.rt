@@ -129,6 +129,9 @@ pub enum Work<'a> {
     Probe {
         /// The file of the capture.
         capture: &'a str,
+        /// By how much later than the change before it a change of the same sample was seen at
+        /// most; none if the changes happened in the order of their lines.
+        skew: Option<u64>,
     },
     /// Let the drivers make edges, one after another.
     Drive {

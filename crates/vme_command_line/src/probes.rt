@@ -5,7 +5,7 @@ ghost use Rattle.vme_command_line.specs.Asked.{AsksForWork};
 ghost use Rattle.vme_command_line.specs.Limits.{IsWithinWork};
 ghost use Rattle.vme_command_line.specs.Unfits.{IsUnfit};
 
-use crate::{Unfit, Work, file_of};
+use crate::{Unfit, Work, file_of, whole_of};
 use clap::ArgMatches;
 
 /// A judgement of what an analyser saw.
@@ -17,5 +17,6 @@ pub(crate) fn probe_of<'a>(operands: &ArgMatches<'a>) -> Result<Work<'a>, Unfit<
 {
     Ok(Work::Probe {
         capture: file_of(operands, "CAPTURE")?,
+        skew: whole_of(operands, "skew", 0)?,
     })
 }

@@ -30,3 +30,5 @@ pub mod Answered
 pub mod Whole
 -- a piece, byte by byte: `probes`
 pub mod Pieces
+-- what is written of a sample: `sampled`
+pub mod SampleLines

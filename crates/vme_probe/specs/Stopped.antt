@@ -53,11 +53,20 @@ has_ours found = ours_below found 22
 abbrev pub nobody_text : Drivers → List ℕ
 nobody_text d = if is_nobody d then no_driver_line ++ 10 ∷ [] else []
 
--- the line of the change, what stands in the way of each of these drivers, and the last line
+-- the line of the change, and what stands in the way of each of these drivers
+unfoldable pub refused_text : Plan → Version → Standings → ℕ → Change → Drivers → List ℕ
+refused_text p v st m c d =
+    ((none_line m c ++ nobody_text d)
+    ++ obstacle_text Controller (obstacle_if p v st c Controller d.controller))
+    ++ board_lines (board_obstacle p v st c d.boards)
+
+-- some of that is a condition of our own rules alone
+unfoldable pub is_refused_by_ours : Plan → Version → Standings → Change → Drivers → Bool
+is_refused_by_ours p v st c d =
+    is_ours_if (obstacle_if p v st c Controller d.controller)
+    || has_ours (board_obstacle p v st c d.boards)
+
+-- the same, and the last line
 unfoldable pub stopped_text : Plan → Version → Standings → ℕ → Change → Drivers → List ℕ
 stopped_text p v st m c d =
-    (((none_line m c ++ nobody_text d)
-    ++ obstacle_text Controller (obstacle_if p v st c Controller d.controller))
-    ++ board_lines (board_obstacle p v st c d.boards))
-    ++ impossible_line m (is_ours_if (obstacle_if p v st c Controller d.controller)
-    || has_ours (board_obstacle p v st c d.boards))
+    refused_text p v st m c d ++ impossible_line m (is_refused_by_ours p v st c d)

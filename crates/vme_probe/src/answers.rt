@@ -5,7 +5,7 @@ ghost use Rattle.vme_bus.specs.Sets.{has};
 ghost use Rattle.vme_captures.specs.Signals.{is_change, is_line};
 ghost use Rattle.vme_standings.specs.Standings.{is_nobody};
 ghost use Rattle.vme_probe.specs.Ends.{AddsComing, interrupt_lines, next_changes, next_cycles, next_interrupts, next_lines, next_of, next_of_probe, next_pins, next_requests, next_strobes, pulled_line, request_lines, strobe_fall};
-ghost use Rattle.vme_probe.specs.Stopped.{board_lines, board_obstacle, has_ours, is_ours_if, nobody_text, obstacle_if, obstacle_text, stopped_text};
+ghost use Rattle.vme_probe.specs.Stopped.{board_lines, board_obstacle, has_ours, is_ours_if, nobody_text, is_refused_by_ours, obstacle_if, obstacle_text, refused_text, stopped_text};
 ghost use Rattle.vme_probe.specs.Ends.{IsEnd, IsPlaces, IsStanding, are_slots, is_probe};
 
 use crate::conditions::obstacle;
@@ -48,7 +48,7 @@ fn obstacle_if(
 /// Appends the line of what stands in the way of a driver, if something does: at most 97 bytes. The
 /// result is whether that is a condition of our own rules alone.
 fn push_obstacle(report: &mut Report, driver: Driver, found: Option<Obstacle>) -> bool
-    requires { array_vec_len report.old + 97 ≤ 20480 }
+    requires { array_vec_len report.old + 97 ≤ 32768 }
     ensures items { report.new.items ≡ report.old.items ++ obstacle_text driver found }
     ensures len { array_vec_len report.new ≤ array_vec_len report.old + 97 }
     ensures ours { result ≡ is_ours_if found }
@@ -73,7 +73,7 @@ fn push_of_boards(
     change: &Change,
     boards: SlotSet,
 ) -> bool
-    requires { array_vec_len report.old + 2134 ≤ 20480 }
+    requires { array_vec_len report.old + 2134 ≤ 32768 }
     ensures items { report.new.items ≡ report.old.items
         ++ board_lines (board_obstacle plan.now probed.now.version before.now change.now boards) }
     ensures len { array_vec_len report.new ≤ array_vec_len report.old + 2134 }
@@ -91,7 +91,7 @@ fn push_of_boards(
 }
 
 /// Whether one of them is so.
-fn either(a: bool, b: bool) -> bool
+pub(crate) fn either(a: bool, b: bool) -> bool
     ensures { result ≡ (a || b) }
 {
     a || b
@@ -100,7 +100,7 @@ fn either(a: bool, b: bool) -> bool
 /// Appends the line that says that nobody has the line or wire of a change, if that is so: at most
 /// 40 bytes.
 fn push_if_nobody(report: &mut Report, drivers: Drivers)
-    requires { array_vec_len report.old + 40 ≤ 20480 }
+    requires { array_vec_len report.old + 40 ≤ 32768 }
     ensures items { report.new.items ≡ report.old.items ++ nobody_text drivers }
     ensures len { array_vec_len report.new ≤ array_vec_len report.old + 40 }
 {
@@ -110,8 +110,37 @@ fn push_if_nobody(report: &mut Report, drivers: Drivers)
     }
 }
 
-/// Appends what is written of a change that nobody may have made: its line, what stands in the way
-/// of each of those who have its line or drive its wire, and the last line.
+/// Appends the line of a change that nobody may have made, and what stands in the way of each of
+/// those who have its line or drive its wire: at most 2,326 bytes. The result is whether some is a
+/// condition of our own rules alone.
+#[tactic(auto, unfolding(crate::specs::Stopped::refused_text, crate::specs::Stopped::is_refused_by_ours))]
+pub(crate) fn push_refused(
+    report: &mut Report,
+    plan: &Plan,
+    probed: &Probed,
+    before: &Standings,
+    moment: u64,
+    change: &Change,
+    drivers: Drivers,
+) -> bool
+    requires room { array_vec_len report.old + 2326 ≤ 32768 }
+    requires change { IsTrue (is_change change.now) }
+    ensures items { report.new.items ≡ report.old.items
+        ++ refused_text plan.now probed.now.version before.now moment change.now drivers }
+    ensures len { array_vec_len report.new ≤ array_vec_len report.old + 2326 }
+    ensures ours { result
+        ≡ is_refused_by_ours plan.now probed.now.version before.now change.now drivers }
+{
+    push_none(report, moment, change);
+    push_if_nobody(report, drivers);
+    let has_line = drivers.controller;
+    let found = obstacle_if(plan, probed, before, change, Driver::Controller, has_line);
+    let of_controller = push_obstacle(report, Driver::Controller, found);
+    let of_boards = push_of_boards(report, plan, probed, before, change, drivers.boards);
+    either(of_controller, of_boards)
+}
+
+/// Appends what is written of a change that nobody may have made, and the last line.
 #[tactic(auto, unfolding(crate::specs::Stopped::stopped_text))]
 pub(crate) fn push_stopped(
     report: &mut Report,
@@ -127,13 +156,8 @@ pub(crate) fn push_stopped(
     ensures { report.new.items
         ≡ stopped_text plan.now probed.now.version before.now moment change.now drivers }
 {
-    push_none(report, moment, change);
-    push_if_nobody(report, drivers);
-    let has_line = drivers.controller;
-    let found = obstacle_if(plan, probed, before, change, Driver::Controller, has_line);
-    let of_controller = push_obstacle(report, Driver::Controller, found);
-    let of_boards = push_of_boards(report, plan, probed, before, change, drivers.boards);
-    push_impossible(report, moment, either(of_controller, of_boards));
+    let is_ours = push_refused(report, plan, probed, before, moment, change, drivers);
+    push_impossible(report, moment, is_ours);
 }
 
 /// The places at which a grant may stand.
@@ -153,7 +177,7 @@ fn places_of(plan: &Plan, phases: &GrantPhases) -> Places
 
 /// Appends the line of the boards that may pull a line, if it is low: at most 101 bytes.
 fn push_pulled(report: &mut Report, standings: &Standings, line: Line, pullers: SlotSet)
-    requires room { array_vec_len report.old + 101 ≤ 20480 }
+    requires room { array_vec_len report.old + 101 ≤ 32768 }
     requires line { IsTrue (is_line line) }
     ensures items { report.new.items
         ≡ report.old.items ++ pulled_line standings.now line (has pullers) }
@@ -164,7 +188,7 @@ fn push_pulled(report: &mut Report, standings: &Standings, line: Line, pullers: 
 
 /// Appends the lines of the request lines that are low: at most 404 bytes.
 fn push_requests(report: &mut Report, plan: &Plan, standings: &Standings)
-    requires { array_vec_len report.old + 404 ≤ 20480 }
+    requires { array_vec_len report.old + 404 ≤ 32768 }
     ensures items { report.new.items ≡ report.old.items ++ request_lines plan.now standings.now }
     ensures len { array_vec_len report.new ≤ array_vec_len report.old + 404 }
 {
@@ -180,7 +204,7 @@ fn push_requests(report: &mut Report, plan: &Plan, standings: &Standings)
 
 /// Appends the lines of the interrupt request lines that are low: at most 707 bytes.
 fn push_interrupts(report: &mut Report, plan: &Plan, standings: &Standings)
-    requires { array_vec_len report.old + 707 ≤ 20480 }
+    requires { array_vec_len report.old + 707 ≤ 32768 }
     ensures items { report.new.items ≡ report.old.items ++ interrupt_lines plan.now standings.now }
     ensures len { array_vec_len report.new ≤ array_vec_len report.old + 707 }
 {
@@ -203,7 +227,7 @@ fn push_change(
     standings: &Standings,
     change: Change,
 )
-    requires room { array_vec_len report.old + 127 ≤ 20480 }
+    requires room { array_vec_len report.old + 127 ≤ 32768 }
     requires change { IsTrue (is_change change) }
     ensures adds { AddsComing plan.now probed.now standings.now (change ∷ [])
         report.old.items report.new.items }
@@ -215,7 +239,7 @@ fn push_change(
 /// Appends the line of the next change of a line, which is seen with nothing, if somebody may make
 /// it: at most 127 bytes. A fall of AS* is seen with something.
 fn push_next(report: &mut Report, plan: &Plan, probed: &Probed, standings: &Standings, line: Line)
-    requires room { array_vec_len report.old + 127 ≤ 20480 }
+    requires room { array_vec_len report.old + 127 ≤ 32768 }
     requires line { IsTrue (is_line line) }
     requires change { IsTrue (is_change (next_of standings.now line)) }
     ensures adds { AddsComing plan.now probed.now standings.now (next_of standings.now line ∷ [])
@@ -232,7 +256,7 @@ fn push_next(report: &mut Report, plan: &Plan, probed: &Probed, standings: &Stan
 
 /// Appends the lines of the next changes of the request lines: at most 508 bytes.
 fn push_next_requests(report: &mut Report, plan: &Plan, probed: &Probed, standings: &Standings)
-    requires { array_vec_len report.old + 508 ≤ 20480 }
+    requires { array_vec_len report.old + 508 ≤ 32768 }
     ensures adds { AddsComing plan.now probed.now standings.now (next_requests standings.now)
         report.old.items report.new.items }
     ensures len { array_vec_len report.new ≤ array_vec_len report.old + 508 }
@@ -244,7 +268,7 @@ fn push_next_requests(report: &mut Report, plan: &Plan, probed: &Probed, standin
 
 /// Appends the lines of the next changes of the interrupt request lines: at most 889 bytes.
 fn push_next_interrupts(report: &mut Report, plan: &Plan, probed: &Probed, standings: &Standings)
-    requires { array_vec_len report.old + 889 ≤ 20480 }
+    requires { array_vec_len report.old + 889 ≤ 32768 }
     ensures adds { AddsComing plan.now probed.now standings.now (next_interrupts standings.now)
         report.old.items report.new.items }
     ensures len { array_vec_len report.new ≤ array_vec_len report.old + 889 }
@@ -267,7 +291,7 @@ fn strobe_fall(value: Value) -> Change
 
 /// Appends the lines of the falls of AS*: at most 1,016 bytes.
 fn push_next_cycles(report: &mut Report, plan: &Plan, probed: &Probed, standings: &Standings)
-    requires { array_vec_len report.old + 1016 ≤ 20480 }
+    requires { array_vec_len report.old + 1016 ≤ 32768 }
     ensures adds { AddsComing plan.now probed.now standings.now next_cycles
         report.old.items report.new.items }
     ensures len { array_vec_len report.new ≤ array_vec_len report.old + 1016 }
@@ -281,7 +305,7 @@ fn push_next_cycles(report: &mut Report, plan: &Plan, probed: &Probed, standings
 
 /// Appends the lines of the next changes of AS*: at most 1,016 bytes.
 fn push_next_strobes(report: &mut Report, plan: &Plan, probed: &Probed, standings: &Standings)
-    requires { array_vec_len report.old + 1016 ≤ 20480 }
+    requires { array_vec_len report.old + 1016 ≤ 32768 }
     ensures adds { AddsComing plan.now probed.now standings.now (next_strobes standings.now)
         report.old.items report.new.items }
     ensures len { array_vec_len report.new ≤ array_vec_len report.old + 1016 }
@@ -302,7 +326,7 @@ fn push_next_pin(
     standings: &Standings,
     probe: Option<Probe>,
 )
-    requires room { array_vec_len report.old + 127 ≤ 20480 }
+    requires room { array_vec_len report.old + 127 ≤ 32768 }
     requires slot { IsTrue (is_probe probe) }
     ensures adds { AddsComing plan.now probed.now standings.now (next_of_probe probe)
         report.old.items report.new.items }
@@ -328,7 +352,7 @@ fn push_next_pins(
     probes: &[Probe],
     chain: ChainId,
 )
-    requires room { array_vec_len report.old + 2794 ≤ 20480 }
+    requires room { array_vec_len report.old + 2794 ≤ 32768 }
     requires slots { IsTrue (are_slots probes.now) }
     ensures adds { AddsComing plan.now probed.now standings.now (next_pins probes.now chain)
         report.old.items report.new.items }
@@ -342,7 +366,7 @@ fn push_next_pins(
 
 /// Appends the lines of the next changes of the shared lines: at most 3,048 bytes.
 fn push_next_lines(report: &mut Report, plan: &Plan, probed: &Probed, standings: &Standings)
-    requires { array_vec_len report.old + 3048 ≤ 20480 }
+    requires { array_vec_len report.old + 3048 ≤ 32768 }
     ensures adds { AddsComing plan.now probed.now standings.now (next_lines standings.now)
         report.old.items report.new.items }
     ensures len { array_vec_len report.new ≤ array_vec_len report.old + 3048 }
@@ -365,7 +389,7 @@ fn push_coming(
     standings: &Standings,
     probes: &[Probe],
 )
-    requires room { array_vec_len report.old + 17018 ≤ 20480 }
+    requires room { array_vec_len report.old + 17018 ≤ 32768 }
     requires slots { IsTrue (are_slots probes.now) }
     ensures { AddsComing plan.now probed.now standings.now
         (next_changes standings.now probes.now) report.old.items report.new.items }

@@ -76,7 +76,7 @@ pub(crate) fn known_at_head(plan: &Plan, version: Version, reader: &Reader) -> O
 ///
 /// # Errors
 /// X8 if that failed; a prefix of the text was written then.
-fn write_last<W: Write>(text: &[u8], out: &mut W) -> Result<(), Fault>
+pub(crate) fn write_last<W: Write>(text: &[u8], out: &mut W) -> Result<(), Fault>
     ensures ok { OnOk result (Appends (W.contents out.old) (W.contents out.new) text.now) }
     ensures front { OnErr result
         (AppendsFront (W.contents out.old) (W.contents out.new) text.now) }

@@ -15,6 +15,8 @@ mod obstacles;
 mod pins;
 mod probes;
 mod request_conditions;
+mod sampled;
+mod samplings;
 mod texts;
 
 pub use conditions::obstacle;

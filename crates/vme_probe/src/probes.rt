@@ -4,20 +4,23 @@ ghost use Rattle.std.specs.Io.KnownBytes.{Keeps};
 ghost use Rattle.vme_model.specs.declared.signals.Version.{Version as VersionValue};
 ghost use Rattle.vme_captures.specs.declared.signals.Entry.{Entry as EntryValue};
 ghost use Rattle.vme_captures.specs.Feeding.{HasRead};
+ghost use Rattle.vme_captures.specs.Signals.{is_change};
 ghost use Rattle.vme_captures.specs.Spelling.{is_entry};
 ghost use Rattle.vme_reading.specs.Streams.{ReadNothing, WroteNothing, streams};
 ghost use Rattle.vme_probe.specs.Ends.{are_slots};
 ghost use Rattle.vme_probe.specs.Faults.{capture_fault, engine_fault, output_fault};
-ghost use Rattle.vme_probe.specs.Probing.{LentText, ProbesInput};
-ghost use Rattle.vme_probe.specs.Reads.{EndTaken, IsAt, IsNew, ReadTaken, ReadsSome, ReadsTo, Taken};
-ghost use Rattle.vme_probe.specs.Steps.{EntryTaken, HeadEnded, HeadTaken, Stands, WholeWritten};
+ghost use Rattle.vme_probe.specs.Probing.{LentText, ProbesInput, ProbesText};
+ghost use Rattle.vme_probe.specs.Reads.{EndTaken, IsAt, IsNew, ReadTaken, ReadsSome, ReadsTo, Taken, skew_of, waiting_in};
+ghost use Rattle.vme_probe.specs.Steps.{EntryTaken, HeadEnded, HeadTaken, NextTaken, Stands, WholeWritten};
 
 use crate::judging::{Known, known_at_head, write_no_beginning};
+use crate::samplings::{Sampling, judge_last, sampling_of};
 use std::alloc::Global;
 use std::io::{Read, Write};
 use thiserror::Error;
 use vme_captures::{CaptureFault, Change, Entry, Reader};
 use vme_reading::{EngineFault, Status, plan_of};
+use vme_samples::SeenChange;
 use vme_slots::Plan;
 use vme_trace::{Fault, flush, read_piece};
 
@@ -36,6 +39,9 @@ pub enum ProbeFault {
     /// A fault of the capture.
     #[error("{0}")]
     Capture(CaptureFault),
+    /// F5: a sample has too many orders: it has more than 12 changes.
+    #[error("F5 too many orders")]
+    TooManyOrders,
 }
 
 impl From<EngineFault> for ProbeFault {
@@ -68,6 +74,8 @@ struct Judging {
     reader: Reader,
     /// What is known of the bus, once the head has ended.
     known: Option<Known>,
+    /// The changes that wait, with `--skew`.
+    sampling: Option<Sampling>,
 }
 
 impl Judging {
@@ -101,6 +109,7 @@ impl Judging {
     /// X8 if that failed; a prefix of the line was written then.
     fn end_head<W: Write>(&mut self, plan: &Plan, out: &mut W) -> Result<Option<Status>, Fault>
         ensures reader { self.new.reader ≡ self.old.reader }
+        ensures sampling { self.new.sampling ≡ self.old.sampling }
         ensures ended { (version : VersionValue) (bytes : List ℕ) (said : List EntryValue)
             → self.old.reader.version ≡ Some version
             → HasRead plan.now self.old.reader bytes said
@@ -120,19 +129,26 @@ impl Judging {
     ///
     /// # Errors
     /// X8 if that failed; a prefix of the line was written then.
-    fn take_moment<W: Write>(&mut self, plan: &Plan, out: &mut W) -> Result<Option<Status>, Fault>
+    fn take_moment<W: Write>(
+        &mut self,
+        plan: &Plan,
+        out: &mut W,
+    ) -> Result<Option<Status>, ProbeFault>
         ensures reader { self.new.reader ≡ self.old.reader }
+        ensures skew { skew_of self.new.sampling ≡ skew_of self.old.sampling }
         ensures taken { (moment : ℕ) (version : VersionValue) (bytes : List ℕ)
             (said : List EntryValue) (from : Option (List ℕ))
             → self.old.reader.version ≡ Some version
             → HasRead plan.now self.old.reader bytes (EntryValue.Moment moment ∷ said)
-            → Stands plan.now version said self.old.known from (W.contents out.old)
-            → EntryTaken plan.now version said (EntryValue.Moment moment) self.new.known
+            → Stands plan.now (skew_of self.old.sampling) version said self.old.known
+            (waiting_in self.old.sampling) from (W.contents out.old)
+            → EntryTaken plan.now (skew_of self.old.sampling) version said
+            (EntryValue.Moment moment) self.new.known (waiting_in self.new.sampling)
             from (W.contents out.new) result }
     {
         match self.known {
             Some(_) => Ok(None),
-            None => self.end_head(plan, out),
+            None => Ok(self.end_head(plan, out)?),
         }
     }
 
@@ -146,21 +162,27 @@ impl Judging {
         plan: &Plan,
         change: &Change,
         out: &mut W,
-    ) -> Result<Option<Status>, Fault>
+    ) -> Result<Option<Status>, ProbeFault>
         requires { IsTrue (is_entry (EntryValue.Change change.now)) }
         ensures reader { self.new.reader ≡ self.old.reader }
+        ensures skew { skew_of self.new.sampling ≡ skew_of self.old.sampling }
         ensures taken { (version : VersionValue) (bytes : List ℕ) (said : List EntryValue)
             (from : Option (List ℕ)) → self.old.reader.version ≡ Some version
             → HasRead plan.now self.old.reader bytes (EntryValue.Change change.now ∷ said)
-            → Stands plan.now version said self.old.known from (W.contents out.old)
-            → EntryTaken plan.now version said (EntryValue.Change change.now) self.new.known
+            → Stands plan.now (skew_of self.old.sampling) version said self.old.known
+            (waiting_in self.old.sampling) from (W.contents out.old)
+            → EntryTaken plan.now (skew_of self.old.sampling) version said
+            (EntryValue.Change change.now) self.new.known (waiting_in self.new.sampling)
             from (W.contents out.new) result }
     {
-        let moment = self.reader.moment().unwrap_or(0);
+        let seen = SeenChange {
+            moment: self.reader.moment().unwrap_or(0),
+            change: *change,
+        };
         let Some(mut known) = self.known else {
             return Ok(None);
         };
-        let status = known.take(plan, moment, change, out)?;
+        let status = take_seen(&mut self.sampling, plan, &mut known, seen, out)?;
         self.known = Some(known);
         Ok(status)
     }
@@ -175,15 +197,17 @@ impl Judging {
         plan: &Plan,
         entry: &Entry,
         out: &mut W,
-    ) -> Result<Option<Status>, Fault>
+    ) -> Result<Option<Status>, ProbeFault>
         requires { IsTrue (is_entry entry.now) }
         ensures reader { self.new.reader ≡ self.old.reader }
+        ensures skew { skew_of self.new.sampling ≡ skew_of self.old.sampling }
         ensures taken { (version : VersionValue) (bytes : List ℕ) (said : List EntryValue)
             (from : Option (List ℕ)) → self.old.reader.version ≡ Some version
             → HasRead plan.now self.old.reader bytes (entry.now ∷ said)
-            → Stands plan.now version said self.old.known from (W.contents out.old)
-            → EntryTaken plan.now version said entry.now self.new.known
-            from (W.contents out.new) result }
+            → Stands plan.now (skew_of self.old.sampling) version said self.old.known
+            (waiting_in self.old.sampling) from (W.contents out.old)
+            → EntryTaken plan.now (skew_of self.old.sampling) version said entry.now
+            self.new.known (waiting_in self.new.sampling) from (W.contents out.new) result }
     {
         match entry {
             Entry::Moment(_) => self.take_moment(plan, out),
@@ -205,13 +229,13 @@ impl Judging {
     ) -> Result<Option<Status>, ProbeFault>
         requires { ReadsSome plan.now self.old }
         ensures reads { OnOk result (ReadsSome plan.now self.new) }
-        ensures taken { (bytes : List ℕ) (from : Option (List ℕ))
-            → IsAt plan.now self.old bytes from (W.contents out.old)
-            → Taken plan.now (bytes ++ byte ∷ []) from (W.contents out.new) self.new result }
+        ensures taken { (skew : Option ℕ) (bytes : List ℕ) (from : Option (List ℕ))
+            → IsAt plan.now skew self.old bytes from (W.contents out.old)
+            → Taken plan.now skew (bytes ++ byte ∷ []) from (W.contents out.new) self.new result }
     {
         match self.reader.take(plan, byte)? {
             None => Ok(None),
-            Some(entry) => Ok(self.take_entry(plan, &entry, out)?),
+            Some(entry) => self.take_entry(plan, &entry, out),
         }
     }
 
@@ -228,9 +252,9 @@ impl Judging {
     ) -> Result<Option<Status>, ProbeFault>
         requires { ReadsSome plan.now self.old }
         ensures reads { OnOk result (ReadsSome plan.now self.new) }
-        ensures taken { (bytes : List ℕ) (from : Option (List ℕ))
-            → IsAt plan.now self.old bytes from (W.contents out.old)
-            → Taken plan.now (bytes ++ piece.now) from (W.contents out.new) self.new result }
+        ensures taken { (skew : Option ℕ) (bytes : List ℕ) (from : Option (List ℕ))
+            → IsAt plan.now skew self.old bytes from (W.contents out.old)
+            → Taken plan.now skew (bytes ++ piece.now) from (W.contents out.new) self.new result }
     {
         for at in 0..piece.len() {
             if let Some(status) = self.take_byte(plan, piece[at], out)? {
@@ -240,22 +264,29 @@ impl Judging {
         Ok(None)
     }
 
-    /// Writes how the bus stands at the end of a capture without a fault.
+    /// Judges the sample that waits, and writes how the bus stands at the end of a capture without
+    /// a fault.
     ///
     /// # Errors
     /// X8 if that failed; a prefix of the text was written then.
-    fn write_end<W: Write>(&self, plan: &Plan, out: &mut W) -> Result<Status, Fault>
-        requires { IsTrue (are_slots self.now.reader.probes.items) }
-        ensures { (version : VersionValue) (bytes : List ℕ) (said : List EntryValue)
-            (from : Option (List ℕ)) → self.now.reader.version ≡ Some version
-            → HasRead plan.now self.now.reader bytes said
-            → Stands plan.now version said self.now.known from (W.contents out.old)
-            → WholeWritten plan.now version said from (W.contents out.new) result }
+    fn write_end<W: Write>(&mut self, plan: &Plan, out: &mut W) -> Result<Status, Fault>
+        requires { IsTrue (are_slots self.old.reader.probes.items) }
+        ensures reader { self.new.reader ≡ self.old.reader }
+        ensures written { (skew : Option ℕ) (version : VersionValue) (bytes : List ℕ)
+            (said : List EntryValue) (from : Option (List ℕ))
+            → self.old.reader.version ≡ Some version
+            → HasRead plan.now self.old.reader bytes said
+            → Stands plan.now skew version said self.old.known (waiting_in self.old.sampling)
+            from (W.contents out.old)
+            → WholeWritten plan.now skew version said from (W.contents out.new) result }
     {
-        match self.known {
-            Some(known) => known.finish(plan, self.reader.probes(), out),
-            None => self.write_head(plan, out),
+        let Some(mut known) = self.known else {
+            return self.write_head(plan, out);
+        };
+        if let Some(status) = judge_last(&mut self.sampling, plan, &mut known, out)? {
+            return Ok(status);
         }
+        known.finish(plan, self.reader.probes(), out)
     }
 
     /// The same if the head ends with the capture.
@@ -264,11 +295,13 @@ impl Judging {
     /// X8 if that failed; a prefix of the text was written then.
     fn write_head<W: Write>(&self, plan: &Plan, out: &mut W) -> Result<Status, Fault>
         requires { IsTrue (are_slots self.now.reader.probes.items) }
-        ensures { (version : VersionValue) (bytes : List ℕ) (said : List EntryValue)
-            (from : Option (List ℕ)) → self.now.reader.version ≡ Some version
+        ensures { (skew : Option ℕ) (version : VersionValue) (bytes : List ℕ)
+            (said : List EntryValue) (from : Option (List ℕ))
+            → self.now.reader.version ≡ Some version
             → HasRead plan.now self.now.reader bytes said
-            → Stands plan.now version said None from (W.contents out.old)
-            → WholeWritten plan.now version said from (W.contents out.new) result }
+            → Stands plan.now skew version said None (waiting_in self.now.sampling)
+            from (W.contents out.old)
+            → WholeWritten plan.now skew version said from (W.contents out.new) result }
     {
         match self.begin(plan, out)? {
             Some(known) => known.finish(plan, self.reader.probes(), out),
@@ -280,11 +313,12 @@ impl Judging {
     ///
     /// # Errors
     /// The faults of the capture; X8.
-    fn finish<W: Write>(&self, plan: &Plan, out: &mut W) -> Result<Status, ProbeFault>
-        requires { ReadsSome plan.now self.now }
-        ensures { (bytes : List ℕ) (from : Option (List ℕ))
-            → IsAt plan.now self.now bytes from (W.contents out.old)
-            → EndTaken plan.now bytes from (W.contents out.new) result }
+    fn finish<W: Write>(&mut self, plan: &Plan, out: &mut W) -> Result<Status, ProbeFault>
+        requires { ReadsSome plan.now self.old }
+        ensures reader { self.new.reader ≡ self.old.reader }
+        ensures taken { (skew : Option ℕ) (bytes : List ℕ) (from : Option (List ℕ))
+            → IsAt plan.now skew self.old bytes from (W.contents out.old)
+            → EndTaken plan.now skew bytes from (W.contents out.new) result }
     {
         self.reader.finish()?;
         Ok(self.write_end(plan, out)?)
@@ -304,9 +338,9 @@ impl Judging {
     ) -> Result<Option<Status>, ProbeFault>
         requires { ReadsSome plan.now self.old }
         ensures reads { OnOk result (ReadsSome plan.now self.new) }
-        ensures taken { (from out_from : Option (List ℕ))
-            → ReadsTo plan.now self.old from (R.remaining capture.old) out_from (W.contents out.old)
-            → ReadTaken plan.now self.new from (R.remaining capture.new)
+        ensures taken { (skew : Option ℕ) (from out_from : Option (List ℕ))
+            → ReadsTo plan.now skew self.old from (R.remaining capture.old) out_from (W.contents out.old)
+            → ReadTaken plan.now skew self.new from (R.remaining capture.new)
             out_from (W.contents out.new) result }
     {
         let count = match read_piece(capture, buffer) {
@@ -326,15 +360,15 @@ impl Judging {
     /// Reads the capture to its end, or to a change that is impossible.
     ///
     /// # Errors
-    /// The faults of the capture; X8.
+    /// The faults of the capture; F5; X8.
     fn read_all<R: Read, W: Write>(
         &mut self,
         plan: &Plan,
         capture: &mut R,
         out: &mut W,
     ) -> Result<Status, ProbeFault>
-        requires { IsNew self.old }
-        ensures { ProbesInput (streams (R.remaining capture.old) (R.remaining capture.new)
+        requires { IsNew (skew_of self.old.sampling) self.old }
+        ensures { ProbesInput (skew_of self.old.sampling) (streams (R.remaining capture.old) (R.remaining capture.new)
             (W.contents out.old) (W.contents out.new)) plan.now result }
     {
         let mut buffer = [0u8; PIECE];
@@ -356,8 +390,8 @@ impl Judging {
         capture: &mut R,
         out: &mut W,
     ) -> Result<Status, ProbeFault>
-        requires { IsNew self.old }
-        ensures { ProbesInput (streams (R.remaining capture.old) (R.remaining capture.new)
+        requires { IsNew (skew_of self.old.sampling) self.old }
+        ensures { ProbesInput (skew_of self.old.sampling) (streams (R.remaining capture.old) (R.remaining capture.new)
             (W.contents out.old) (W.contents out.new)) plan.now result }
     {
         match self.read_all(plan, capture, out) {
@@ -389,22 +423,47 @@ fn flush_if<W: Write>(paused: bool, out: &mut W) -> Result<(), Fault>
     if paused { flush(out) } else { Ok(()) }
 }
 
+/// Takes in a change: with `--skew` it waits for its sample, and without it is judged.
+///
+/// # Errors
+/// F5; X8 if a text could not be written, and a prefix of it was written then.
+fn take_seen<W: Write>(
+    sampling: &mut Option<Sampling>,
+    plan: &Plan,
+    known: &mut Known,
+    seen: SeenChange,
+    out: &mut W,
+) -> Result<Option<Status>, ProbeFault>
+    requires { IsTrue (is_change seen.change) }
+    ensures skew { skew_of sampling.new ≡ skew_of sampling.old }
+    ensures taken { NextTaken plan.now (skew_of sampling.old) (waiting_in sampling.old) seen
+        known.old known.new (waiting_in sampling.new)
+        (W.contents out.old) (W.contents out.new) result }
+{
+    match sampling {
+        None => Ok(known.take(plan, seen.moment, &seen.change, out)?),
+        Some(sampling) => sampling.take(plan, known, seen, out),
+    }
+}
+
 /// Judges a capture on a plan.
 ///
 /// # Errors
-/// The faults of the capture; X8.
+/// F3; the faults of the capture; F5; X8.
 fn probe_on<R: Read, W: Write>(
     alloc: Global,
     plan: &Plan,
+    skew: Option<u64>,
     capture: &mut R,
     out: &mut W,
 ) -> Result<Status, ProbeFault>
-    ensures { ProbesInput (streams (R.remaining capture.old) (R.remaining capture.new)
+    ensures { ProbesText skew (streams (R.remaining capture.old) (R.remaining capture.new)
         (W.contents out.old) (W.contents out.new)) plan.now result }
 {
     let mut judging = Judging {
         reader: Reader::new(alloc),
         known: None,
+        sampling: sampling_of(alloc, skew)?,
     };
     judging.judge(plan, capture, out)
 }
@@ -412,23 +471,29 @@ fn probe_on<R: Read, W: Write>(
 /// Writes a line for each change of a capture that is possible, and then how the bus stands, or
 /// what stands in the way, on the plan of a scenario.
 ///
-/// The status is `Done` if the capture is possible, and `SomeRefused` if it is not. Behind a change
-/// that is impossible nothing is read. If a read gave fewer bytes than were asked for, the writer
-/// hands on what it holds back before the next.
+/// Without `skew` the changes happened in the order of their lines. With it a change that is at
+/// most so much later than the one before it belongs to the same sample, and the changes of a
+/// sample have no order but those of one line or pin.
+///
+/// The status is `Done` if the capture is possible, and `SomeRefused` if it is not. Behind a sample
+/// that is impossible nothing is read but the change that completed it. If a read gave fewer bytes
+/// than were asked for, the writer hands on what it holds back before the next.
 ///
 /// # Errors
-/// F2 and the faults of the scenario, before anything is read or written; those of the capture,
-/// after the lines of the changes before them; X8 if the output cannot be written.
+/// F2 and the faults of the scenario, and F3, before anything is read or written; those of the
+/// capture and F5, after the lines of the changes that were judged before; X8 if the output cannot
+/// be written.
 pub fn probe<R: Read, W: Write>(
     alloc: Global,
     scenario: &[u8],
+    skew: Option<u64>,
     capture: &mut R,
     out: &mut W,
 ) -> Result<Status, ProbeFault>
     ensures { let s = streams (R.remaining capture.old) (R.remaining capture.new)
         (W.contents out.old) (W.contents out.new) in
-        LentText scenario.now (ReadNothing s × WroteNothing s) (ProbesInput s) result }
+        LentText scenario.now (ReadNothing s × WroteNothing s) (ProbesText skew s) result }
 {
     let plan = plan_of(alloc, scenario)?;
-    probe_on(alloc, &plan, capture, out)
+    probe_on(alloc, &plan, skew, capture, out)
 }

@@ -22,7 +22,7 @@ use Rattle.vme_order.specs.declared.Form.{Form}
 use Rattle.vme_order.specs.declared.OrderingFault.TheVariants as order
 use Rattle.vme_order.specs.Ordering.{Answer as OrderAnswer, LentText, OrdersInput}
 use Rattle.vme_probe.specs.declared.ProbeFault.TheVariants as probe
-use Rattle.vme_probe.specs.Probing.{Answer as ProbeAnswer, LentText as LentCapture, ProbesInput}
+use Rattle.vme_probe.specs.Probing.{Answer as ProbeAnswer, LentText as LentCapture, ProbesText}
 use Rattle.vme_command_line.specs.declared.Job.TheVariants.{Joined, OnScenario}
 use Rattle.vme_command_line.specs.declared.Task.{Task}
 use Rattle.vme_command_line.specs.declared.Work.TheVariants.{OnTrace, OtherOrder, Order, Probe, Run}
@@ -102,10 +102,11 @@ order_done scenario moments text slacks places progress form from to old new ans
     by (Err order.TooManyOrders) does = (text, from, to, does)
 
 -- a judgement of a capture
-pub probe_done : (scenario capture : Bor (List ℕ)) (text : List ℕ) (from to old new : Known) (answer : ProbeAnswer)
-    → LentCapture text (ReadNothing (streams from to old new) × WroteNothing (streams from to old new)) (ProbesInput (streams from to old new)) answer
-    → IsDone (OnScenario scenario (Probe capture)) old new (probe_answer_named scenario answer)
-probe_done scenario capture text from to old new (Ok status) does = (text, from, to, does)
-probe_done scenario capture text from to old new (Err (probe.Engine f)) does =
-    fault_handed (Does (OnScenario scenario (Probe capture)) old new) (Stops (OnScenario scenario (Probe capture))) (Fails (OnScenario scenario (Probe capture)) old new) (Keeps old new) scenario f (text, from, to, does) (λ h. absurd h.3.3.2) (λ h. h.3.1.1)
-probe_done scenario capture text from to old new (Err (probe.Capture f)) does = (text, from, to, does)
+pub probe_done : (scenario capture : Bor (List ℕ)) (skew : Option ℕ) (text : List ℕ) (from to old new : Known) (answer : ProbeAnswer)
+    → LentCapture text (ReadNothing (streams from to old new) × WroteNothing (streams from to old new)) (ProbesText skew (streams from to old new)) answer
+    → IsDone (OnScenario scenario (Probe capture skew)) old new (probe_answer_named scenario answer)
+probe_done scenario capture skew text from to old new (Ok status) does = (text, from, to, does)
+probe_done scenario capture skew text from to old new (Err (probe.Engine f)) does =
+    fault_handed (Does (OnScenario scenario (Probe capture skew)) old new) (Stops (OnScenario scenario (Probe capture skew))) (Fails (OnScenario scenario (Probe capture skew)) old new) (Keeps old new) scenario f (text, from, to, does) (λ h. absurd h.3.3.2) (λ h. h.3.1.1)
+probe_done scenario capture skew text from to old new (Err (probe.Capture f)) does = (text, from, to, does)
+probe_done scenario capture skew text from to old new (Err probe.TooManyOrders) does = (text, from, to, does)

@@ -41,7 +41,7 @@ use Rattle.vme_order.specs.declared.Form.{Form}
 use Rattle.vme_order.specs.declared.OrderingFault.TheVariants as order
 use Rattle.vme_order.specs.Ordering.{Answer as OrderAnswer, LentText, OrdersInput}
 use Rattle.vme_probe.specs.declared.ProbeFault.TheVariants as probe
-use Rattle.vme_probe.specs.Probing.{Answer as ProbeAnswer, LentText as LentCapture, ProbesInput}
+use Rattle.vme_probe.specs.Probing.{Answer as ProbeAnswer, LentText as LentCapture, ProbesText}
 use Rattle.vme_command_line.specs.declared.Job.{Job}
 use Rattle.vme_command_line.specs.declared.Job.TheVariants.{Joined, OwnVersion, Rules, OnScenario}
 use Rattle.vme_command_line.specs.declared.Work.{Work}
@@ -59,7 +59,7 @@ use Rattle.vme_program.specs.Reaching.{GivesUp, Unhindered, goal_of}
 use Rattle.vme_program.specs.Statuses.{exit_code}
 use Rattle.vme_program.specs.Together.{LacksFiles, SumsFiles}
 use Rattle.vme_program.specs.declared.faults.ProgramFault.{ProgramFault}
-use Rattle.vme_program.specs.declared.faults.ProgramFault.TheVariants.{CannotRead, TooLong, Engine, InTrace, SomeTraces, NoRace, NeverComes, Boards, Ordering, Capture}
+use Rattle.vme_program.specs.declared.faults.ProgramFault.TheVariants.{CannotRead, TooLong, Engine, InTrace, SomeTraces, NoRace, NeverComes, Boards, Ordering, Probing}
 
 abbrev pub Known : Type 0
 Known = Option (List ℕ)
@@ -104,8 +104,8 @@ abbrev pub OnMoments : Form → Slacks → Known → Known → OrderAnswer → T
 OnMoments form slacks = OnFile LentText (OrdersInput form slacks)
 
 -- what the engine `probe` does on a plan and a capture
-abbrev pub OnCapture : Known → Known → ProbeAnswer → Type 0
-OnCapture = OnFile LentCapture ProbesInput
+abbrev pub OnCapture : Option ℕ → Known → Known → ProbeAnswer → Type 0
+OnCapture skew = OnFile LentCapture (ProbesText skew)
 
 -- what the engine of `races --other` does on a plan and a trace
 abbrev pub OnRace : ℕ → Known → Known → Result Other EngineFault → Type 0
@@ -153,7 +153,7 @@ DoesWork (Same trace other) old new = Alone (λ answer.
     × LentAsking text (Keeps old new) (ComparesFiles trace.now other.now old new) answer)
 DoesWork (Order moments slacks places progress) old new =
     Shared order.Engine (OnMoments (form_of places) slacks old new)
-DoesWork (Probe capture) old new = Shared probe.Engine (OnCapture old new)
+DoesWork (Probe capture skew) old new = Shared probe.Engine (OnCapture skew old new)
 DoesWork (Drive edges version choice) old new =
     Alone (OnText (Unhindered (goal_of choice) (DoesDrive edges version choice old new)) old new)
 DoesWork (Run edges turns version) old new = λ answer.
@@ -181,7 +181,7 @@ FailsWork (OtherOrder trace edge) old new (NoRace asked) =
     (asked ≡ edge) × OnRace edge old new (Ok other.NoRace)
 FailsWork (Order moments slacks places progress) old new (Ordering f) =
     OnMoments (form_of places) slacks old new (Err f)
-FailsWork (Probe capture) old new (Capture f) = OnCapture old new (Err (probe.Capture f))
+FailsWork (Probe capture skew) old new (Probing f) = OnCapture skew old new (Err f)
 FailsWork (Drive edges version choice) old new (NeverComes why) =
     GivesUp (goal_of choice) old new why
 FailsWork work old new f = ⊥
@@ -207,7 +207,7 @@ Hands Ends Stops Fails nothing (Err SomeTraces) = Fails SomeTraces
 Hands Ends Stops Fails nothing (Err (NoRace edge)) = Fails (NoRace edge)
 Hands Ends Stops Fails nothing (Err (NeverComes why)) = Fails (NeverComes why)
 Hands Ends Stops Fails nothing (Err (Ordering f)) = Fails (Ordering f)
-Hands Ends Stops Fails nothing (Err (Capture f)) = Fails (Capture f)
+Hands Ends Stops Fails nothing (Err (Probing f)) = Fails (Probing f)
 
 -- the job is done in this way
 abbrev pub IsDone : Job → Known → Known → Result Status ProgramFault → Type 0

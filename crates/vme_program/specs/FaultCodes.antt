@@ -14,6 +14,8 @@ use Rattle.vme_captures.specs.declared.CaptureFault.{CaptureFault}
 use Rattle.vme_captures.specs.declared.CaptureFault.TheVariants as capture
 use Rattle.vme_order.specs.declared.OrderingFault.{OrderingFault}
 use Rattle.vme_order.specs.declared.OrderingFault.TheVariants as order
+use Rattle.vme_probe.specs.declared.ProbeFault.{ProbeFault}
+use Rattle.vme_probe.specs.declared.ProbeFault.TheVariants as probe
 use Rattle.vme_run.specs.declared.RunFault.{RunFault}
 use Rattle.vme_run.specs.declared.RunFault.TheVariants as run
 use Rattle.vme_rulebook.specs.declared.Code.{Code}
@@ -21,7 +23,7 @@ use Rattle.vme_rulebook.specs.declared.Code.TheVariants.{F1, F2, F3, F4, F5, F6,
 use Rattle.vme_program.specs.declared.arguments.WordsFault.{WordsFault}
 use Rattle.vme_program.specs.declared.arguments.WordsFault.TheVariants as given
 use Rattle.vme_program.specs.declared.faults.ProgramFault.{ProgramFault}
-use Rattle.vme_program.specs.declared.faults.ProgramFault.TheVariants.{CannotRead, TooLong, Engine, InTrace, SomeTraces, NoRace, NeverComes, Boards, Ordering, Capture}
+use Rattle.vme_program.specs.declared.faults.ProgramFault.TheVariants.{CannotRead, TooLong, Engine, InTrace, SomeTraces, NoRace, NeverComes, Boards, Ordering, Probing}
 
 -- of a backplane
 abbrev pub code_of_plan : PlanError → Code
@@ -88,6 +90,12 @@ code_of_capture (capture.NotProbed n) = Some X14
 code_of_capture (capture.NoChange n) = Some X15
 code_of_capture (capture.NoLine n) = Some X16
 
+-- of `probe`
+abbrev pub code_of_probe : ProbeFault → Option Code
+code_of_probe (probe.Engine f) = code_of_engine f
+code_of_probe (probe.Capture f) = code_of_capture f
+code_of_probe probe.TooManyOrders = Some F5
+
 -- of `run`
 abbrev pub code_of_run : RunFault → Option Code
 code_of_run (run.Engine f) = code_of_engine f
@@ -106,7 +114,7 @@ code_of (NoRace edge) = Some X11
 code_of (NeverComes why) = None
 code_of (Boards f) = code_of_run f
 code_of (Ordering f) = code_of_order f
-code_of (Capture f) = code_of_capture f
+code_of (Probing f) = code_of_probe f
 
 -- of the arguments
 abbrev pub code_of_words : WordsFault → Code

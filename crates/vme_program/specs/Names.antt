@@ -26,7 +26,7 @@ use Rattle.vme_command_line.specs.declared.Job.TheVariants.{Joined, OwnVersion, 
 use Rattle.vme_command_line.specs.declared.Work.{Work}
 use Rattle.vme_command_line.specs.declared.Work.TheVariants.{OnTrace, Checks, Sums, OtherOrder, Same, Order, Probe, Drive, Run}
 use Rattle.vme_program.specs.declared.faults.ProgramFault.{ProgramFault}
-use Rattle.vme_program.specs.declared.faults.ProgramFault.TheVariants.{CannotRead, TooLong, Engine, InTrace, SomeTraces, NoRace, NeverComes, Boards, Ordering, Capture}
+use Rattle.vme_program.specs.declared.faults.ProgramFault.TheVariants.{CannotRead, TooLong, Engine, InTrace, SomeTraces, NoRace, NeverComes, Boards, Ordering, Probing}
 
 -- the name of the scenario of a job: standard input is `-`, and two jobs have none
 abbrev pub scenario_name : Job → List ℕ
@@ -43,7 +43,7 @@ IsFileOfWork (Sums traces) name = Contains (texts_of traces.items) name
 IsFileOfWork (OtherOrder trace edge) name = name ≡ trace.now
 IsFileOfWork (Same trace other) name = (name ≡ trace.now) ⊎ (name ≡ other.now)
 IsFileOfWork (Order moments slacks places progress) name = name ≡ moments.now
-IsFileOfWork (Probe capture) name = name ≡ capture.now
+IsFileOfWork (Probe capture skew) name = name ≡ capture.now
 IsFileOfWork (Drive edges version choice) name = ⊥
 IsFileOfWork (Run edges turns version) name = ⊥
 
@@ -107,7 +107,8 @@ abbrev pub probe_answer_named :
     Bor (List ℕ) → Result Status ProbeFault → Result Status ProgramFault
 probe_answer_named name (Ok status) = Ok status
 probe_answer_named name (Err (probe.Engine f)) = Err (fault_named name f)
-probe_answer_named name (Err (probe.Capture f)) = Err (Capture f)
+probe_answer_named name (Err (probe.Capture f)) = Err (Probing (probe.Capture f))
+probe_answer_named name (Err probe.TooManyOrders) = Err (Probing probe.TooManyOrders)
 
 -- the answer about the other order of the race of this edge
 abbrev pub other_answer_named :
@@ -142,4 +143,4 @@ IsFaultOf job (NoRace edge) = Unit {0}
 IsFaultOf job (NeverComes why) = Unit {0}
 IsFaultOf job (Boards fault) = Unit {0}
 IsFaultOf job (Ordering fault) = Unit {0}
-IsFaultOf job (Capture fault) = Unit {0}
+IsFaultOf job (Probing fault) = Unit {0}

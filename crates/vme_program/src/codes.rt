@@ -8,6 +8,7 @@ use vme_captures::CaptureFault;
 use vme_model::PlanError;
 use vme_moments::MomentsFault;
 use vme_order::OrderingFault;
+use vme_probe::ProbeFault;
 use vme_reading::EngineFault;
 use vme_rulebook::Code;
 use vme_run::RunFault;
@@ -114,6 +115,17 @@ fn code_of_capture(fault: CaptureFault) -> Option<Code>
     }
 }
 
+/// The code of a fault of `probe`.
+fn code_of_probe(fault: &ProbeFault) -> Option<Code>
+    ensures { result ≡ said.code_of_probe fault.now }
+{
+    match fault {
+        ProbeFault::Engine(fault) => code_of_engine(fault),
+        ProbeFault::Capture(fault) => code_of_capture(*fault),
+        ProbeFault::TooManyOrders => Some(Code::F5),
+    }
+}
+
 /// The code of a fault of `run`.
 fn code_of_run(fault: &RunFault) -> Option<Code>
     ensures { result ≡ said.code_of_run fault.now }
@@ -139,7 +151,7 @@ impl ProgramFault<'_> {
             ProgramFault::NoRace(_) => Some(Code::X11),
             ProgramFault::Boards(fault) => code_of_run(fault),
             ProgramFault::Ordering(fault) => code_of_order(fault),
-            ProgramFault::Capture(fault) => code_of_capture(*fault),
+            ProgramFault::Probing(fault) => code_of_probe(fault),
             ProgramFault::SomeTraces | ProgramFault::NeverComes(_) => None,
         }
     }

@@ -8,9 +8,9 @@ use std::fmt;
 use std::io::{self, ErrorKind};
 use std::process::ExitCode;
 use thiserror::Error;
-use vme_captures::CaptureFault;
 use vme_escapes::OneLine;
 use vme_order::OrderingFault;
+use vme_probe::ProbeFault;
 use vme_reach::Hindrance;
 use vme_reading::{EngineFault, PairFault};
 use vme_run::RunFault;
@@ -52,9 +52,9 @@ pub enum ProgramFault<'a> {
     /// A fault of the moments of `order`, of their orders, or of the slacks.
     #[error("{0}")]
     Ordering(OrderingFault),
-    /// A fault of the capture of `probe`.
+    /// A fault of the capture of `probe`, or of the orders of its changes.
     #[error("{0}")]
-    Capture(CaptureFault),
+    Probing(ProbeFault),
 }
 
 impl<'a> ProgramFault<'a> {

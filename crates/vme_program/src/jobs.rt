@@ -387,7 +387,7 @@ fn run_work<'a, R: Threads + Wait + Sync, W: Write>(
             places,
             progress,
         } => run_order(rt, scenario, text, moments, &slacks, places, progress, out),
-        Work::Probe { capture } => run_probe(rt, scenario, text, capture, out),
+        Work::Probe { capture, skew } => run_probe(rt, scenario, text, capture, skew, out),
         Work::Drive {
             edges,
             version,

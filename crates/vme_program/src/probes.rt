@@ -20,7 +20,7 @@ fn answer_of_probe<'a>(
     match answer {
         Ok(status) => Ok(status),
         Err(ProbeFault::Engine(fault)) => Err(ProgramFault::of_engine(name, fault)),
-        Err(ProbeFault::Capture(fault)) => Err(ProgramFault::Capture(fault)),
+        Err(fault) => Err(ProgramFault::Probing(fault)),
     }
 }
 
@@ -31,13 +31,14 @@ pub(crate) fn run_probe<'a, W: Write>(
     scenario: &'a str,
     text: &[u8],
     capture: &'a str,
+    skew: Option<u64>,
     out: &mut W,
 ) -> Result<Status, ProgramFault<'a>>
     ensures fault { IfErr result
-        (IsFaultOf (Job.OnScenario scenario.entry (Work.Probe capture.entry))) }
-    ensures done { IsDone (Job.OnScenario scenario.entry (Work.Probe capture.entry))
+        (IsFaultOf (Job.OnScenario scenario.entry (Work.Probe capture.entry skew))) }
+    ensures done { IsDone (Job.OnScenario scenario.entry (Work.Probe capture.entry skew))
         (W.contents out.old) (W.contents out.new) result }
 {
     let mut input = open(rt, capture)?;
-    answer_of_probe(scenario, probe(rt.alloc(), text, &mut input, out))
+    answer_of_probe(scenario, probe(rt.alloc(), text, skew, &mut input, out))
 }

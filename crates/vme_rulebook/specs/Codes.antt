@@ -89,11 +89,13 @@ code_text F4 =
     ++ codes "such as Latin-1: rename the file, or read it from `/dev/stdin`.\n"
 code_text F5 =
     codes "F5 too many orders\n"
-    ++ codes "`order` found no legal order, and there are too many to say that there is none.\n"
-    ++ codes "Usually drivers have more slack than the design has, a moment holds the edges of\n"
+    ++ codes "From `order`: no legal order was found, and there are too many to say that there\n"
+    ++ codes "is none. Usually drivers have more slack than the design has, a moment holds\n"
     ++ codes "many clocks, or an edge is listed at least 128 edges after one that waits for\n"
-    ++ codes "it. Give each driver the slack that it needs and no more, each clock a moment of\n"
-    ++ codes "its own, and each edge a moment closer to the time at which it took effect.\n"
+    ++ codes "it. Give less slack, each clock a moment of its own, and each edge a moment\n"
+    ++ codes "closer to its time. From `probe --skew S`: a sample has more than 12 changes.\n"
+    ++ codes "Usually S is too great, or the analyser too slow. Take the least S that is\n"
+    ++ codes "right, or sample faster.\n"
 code_text F6 =
     codes "F6 more than 1048576 edges\n"
     ++ codes "Moments have at most 1,048,576 edges, refused ones included, and these have\n"

@@ -39,11 +39,13 @@ such as Latin-1: rename the file, or read it from `/dev/stdin`.
 ";
 
 pub(crate) const F5: &str = "F5 too many orders
-`order` found no legal order, and there are too many to say that there is none.
-Usually drivers have more slack than the design has, a moment holds the edges of
+From `order`: no legal order was found, and there are too many to say that there
+is none. Usually drivers have more slack than the design has, a moment holds
 many clocks, or an edge is listed at least 128 edges after one that waits for
-it. Give each driver the slack that it needs and no more, each clock a moment of
-its own, and each edge a moment closer to the time at which it took effect.
+it. Give less slack, each clock a moment of its own, and each edge a moment
+closer to its time. From `probe --skew S`: a sample has more than 12 changes.
+Usually S is too great, or the analyser too slow. Take the least S that is
+right, or sample faster.
 ";
 
 pub(crate) const F6: &str = "F6 more than 1048576 edges
