@@ -38,7 +38,7 @@ false_true : ◌≡◌ {A = Bool} false true → ⊥
 false_true h = cc
 
 -- nothing is known only while no moment was said
-begun : (p : Plan) (v : Version) (skew : Option ℕ) (said : List Entry) (waits : List SeenChange) (text : List ℕ) → Judged p v skew said None waits text → last_moment said ≡ None
+pub begun : (p : Plan) (v : Version) (skew : Option ℕ) (said : List Entry) (waits : List SeenChange) (text : List ℕ) → Judged p v skew said None waits text → last_moment said ≡ None
 begun p v skew [] waits text h = refl
 begun p v skew (entry.Pin q ∷ said) waits text h = begun p v skew said waits text h
 begun p v skew (entry.Running ∷ said) waits text h = begun p v skew said waits text h

@@ -20,6 +20,12 @@ pub mod FoundPins
 pub mod Beginning
 -- what a capture says stands in lines without a fault: `probes`
 pub mod Said
+-- what is known behind a capture's changes covers the bus: `laws`
+pub mod Tied
+-- who may have made a change: `laws`
+pub mod Makers
+-- what is answered of a capture, and the buses that show it: `laws`
+pub mod Refused
 -- what is known and written, one thing that was said after the other: `probes`
 pub mod Judged
 -- a capture is read byte by byte: `probes`

@@ -68,7 +68,7 @@ all_lines p n said (line ∷ lines) rest h =
     by_line p n said line (line_says p n said line) (λ e. read_entries p (next_number n) (e ∷ said) lines rest) refl h
     (λ e k. all_lines p (next_number n) (e ∷ said) lines rest k)
 
-later : (p : Plan) (es said : List Entry) → AllSaid p (es ++ said) → AllSaid p said
+pub later : (p : Plan) (es said : List Entry) → AllSaid p (es ++ said) → AllSaid p said
 later p [] said h = h
 later p (e ∷ es) said h = later p es said h.1
 
@@ -89,7 +89,7 @@ all_of_text p (line ∷ lines) rest =
     some_said p (is_too_long line) (version_of line) (read_entries p 2 [] lines rest) (too_long 1)
     (subst (λ (l : List Entry). AllSaid p l) (append-nil (reverse (read_entries p 2 [] lines rest).0)) (all_lines p 2 [] lines rest tt))
 
-all_said : (p : Plan) (bytes : List ℕ) → AllSaid p (reverse (read_of p bytes).entries)
+pub all_said : (p : Plan) (bytes : List ℕ) → AllSaid p (reverse (read_of p bytes).entries)
 unfolding read_of
 all_said p bytes = all_of_text p (split_lines bytes).0 (split_lines bytes).1
 

@@ -5,6 +5,8 @@
 pub mod Probing
 -- believe: what is known of the bus behind what was said of a capture
 pub mod Knowing
+-- believe: what is printed, beside the buses that keep the rules and show the capture
+pub mod Naming
 -- believe: what is known of the bus behind the changes of a sample, and what is written of them
 pub mod Sampled
 -- believe: the lines of the answer

@@ -1,8 +1,10 @@
-//! What holds of whoever may not have made a change: one of the change's conditions is named.
+//! What holds of the answer: no bus that keeps the rules is left out of it, and of whoever may not
+//! have made a change, one of the change's conditions is named.
 //!
 //! The functions do nothing. Each is a theorem, which its contract states.
-ghost use Rattle.std.specs.Prelude.{◌≡◌, List, true, false};
+ghost use Rattle.std.specs.Prelude.{◌≡◌, ◌⊎◌, ℕ, List, None, Ok, true, false};
 ghost use Rattle.vme_captures.specs.Levels.{is_line_left_low};
+ghost use Rattle.vme_captures.specs.Reading.{read_of};
 ghost use Rattle.vme_captures.specs.Signals.{is_change};
 ghost use Rattle.vme_captures.specs.declared.levels.Levels.{Levels};
 ghost use Rattle.vme_captures.specs.declared.reader.Probe.{Probe};
@@ -11,7 +13,11 @@ ghost use Rattle.vme_captures.specs.declared.signals.Line.TheVariants as line;
 ghost use Rattle.vme_model.specs.Accepted.{IsAccepted};
 ghost use Rattle.vme_model.specs.Plan.{Plan};
 ghost use Rattle.vme_probe.specs.Hindered.{AreOthersHindered, FitsTogether, is_line_but_busy, is_of_a_cycle, is_of_requests};
+ghost use Rattle.vme_probe.specs.Naming.{IsRefused, NamesAll};
 ghost use Rattle.vme_probe.specs.Pins.{HoldsProbed};
+ghost use Rattle.vme_probe.specs.Probing.{Probes};
+ghost use Rattle.vme_reading.specs.Streams.{HasConsumed, IsReadOut, Streams, Wrote};
+ghost use Rattle.vme_reading.specs.declared.Status.TheVariants.{Done, SomeRefused};
 ghost use Rattle.vme_standings.specs.Behind.{IsBehind};
 ghost use Rattle.vme_standings.specs.Driving.{AreDrivers};
 ghost use Rattle.vme_standings.specs.Hidden.{HasMoved};
@@ -21,6 +27,22 @@ ghost use Rattle.vme_standings.specs.declared.segments.Segments.{Segments};
 ghost use Rattle.vme_standings.specs.declared.standings.Drivers.{Drivers};
 ghost use Rattle.vme_standings.specs.declared.standings.Probed.{Probed};
 ghost use Rattle.vme_standings.specs.declared.standings.Standings.{Standings};
+
+/// If a capture is possible, everybody is named who may have made each of its changes: whoever made
+/// it in some list of edges that keeps the rules and shows what was captured up to there. If it is
+/// impossible, there is no such list for what was captured up to the change that is refused, or for
+/// the head. Each change is a sample of its own here.
+#[tactic(auto, using(crate::proofs::Refused::possible_named, crate::proofs::Refused::impossible_refused))]
+pub fn no_legal_bus_is_left_out()
+    ensures possible { (p : Plan) (bytes : List ℕ) (s : Streams) → IsAccepted p
+        → Probes p None bytes s (Ok Done)
+        → (text : List ℕ) × NamesAll p (read_of p bytes) text × Wrote s text }
+    ensures impossible { (p : Plan) (bytes : List ℕ) (s : Streams) → IsAccepted p
+        → Probes p None bytes s (Ok SomeRefused)
+        → (read : List ℕ) × (text : List ℕ)
+        × (HasConsumed s read ⊎ (IsReadOut s × (read ≡ bytes)))
+        × IsRefused p (read_of p read) text × Wrote s text }
+{}
 
 /// Whoever has a shared line that rises, other than BBSY*, and may not have let it rise, has a
 /// condition that is named.

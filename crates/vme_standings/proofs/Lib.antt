@@ -90,6 +90,8 @@ pub mod JoinedLists
 pub mod JoinedRuns
 -- what is known of a bus that it covers: `joined_laws`
 pub mod JoinedTells
+-- where a grant stands, by what is known of a bus that it covers: `joined_laws`
+pub mod JoinedWaits
 -- what is known covers every bus that shows a capture: `joined_laws`
 pub mod JoinedCaptures
 -- what is known at the beginning covers the bus: `joined_laws`

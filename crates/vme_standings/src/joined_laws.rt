@@ -2,7 +2,9 @@
 //!
 //! The function does nothing. It is a theorem, which its contract states. `old` is what is known
 //! before an edge, and `new` what is known behind it.
+ghost use Rattle.std.specs.Option.{option_map_or};
 ghost use Rattle.std.specs.Prelude.{◌≡◌, ◌∷◌, ◌++◌, ◌&&◌, ◌||◌, ℕ, true, false, Some, None, List, []};
+ghost use Rattle.vme_bus.specs.Sets.{has};
 ghost use Rattle.vme_captures.specs.Changes.{agrees, seen};
 ghost use Rattle.vme_captures.specs.Levels.{is_line_left_low};
 ghost use Rattle.vme_captures.specs.Possible.{AgreeEach, Capture, Explains, IsPossible, Sighting, sightings};
@@ -11,24 +13,29 @@ ghost use Rattle.vme_captures.specs.declared.levels.Levels.{Levels};
 ghost use Rattle.vme_captures.specs.declared.signals.Line.TheVariants as line;
 ghost use Rattle.vme_captures.specs.declared.signals.Pin.{Pin};
 ghost use Rattle.vme_model.specs.Accepted.{IsAccepted};
-ghost use Rattle.vme_model.specs.History.{drive};
+ghost use Rattle.vme_model.specs.GrantSafety.{Travels};
+ghost use Rattle.vme_model.specs.History.{drive, line as line_of, shown};
 ghost use Rattle.vme_model.specs.Plan.{Plan};
 ghost use Rattle.vme_model.specs.Verdict.{IsLegal};
+ghost use Rattle.vme_model.specs.declared.signals.Cycle.{Cycle};
 ghost use Rattle.vme_model.specs.declared.signals.Driver.TheVariants.{Slot};
 ghost use Rattle.vme_model.specs.declared.signals.Edge.{Edge};
-ghost use Rattle.vme_model.specs.declared.signals.Wire.TheVariants.{Bbsy, Irq};
+ghost use Rattle.vme_model.specs.declared.signals.Version.{Version};
+ghost use Rattle.vme_model.specs.declared.signals.Wire.TheVariants.{AddressStrobe, Bbsy, Irq};
 ghost use Rattle.vme_standings.specs.Behind.{IsBehind};
-ghost use Rattle.vme_standings.specs.Covers.{Among, AreLevels, AreProbed, Covers};
+ghost use Rattle.vme_standings.specs.Covers.{Among, AreLevels, AreProbed, Covers, says};
+ghost use Rattle.vme_standings.specs.Cuts.{is_nowhere};
 ghost use Rattle.vme_standings.specs.Driving.{AreDrivers};
 ghost use Rattle.vme_standings.specs.Following.{Follows, HeadSays, StartsAs};
+ghost use Rattle.vme_standings.specs.GrantChains.{is_of_level, place_before};
 ghost use Rattle.vme_standings.specs.Hidden.{HasMoved};
-ghost use Rattle.vme_standings.specs.Phases.{has_phase, is_held};
+ghost use Rattle.vme_standings.specs.Phases.{has_phase, is_held, is_in_table};
 ghost use Rattle.vme_standings.specs.RequestSets.{may_be};
 ghost use Rattle.vme_standings.specs.Requests.{is_on_level};
 ghost use Rattle.vme_standings.specs.Running.{CannotRun, IsPowerUp, Runs};
 ghost use Rattle.vme_standings.specs.Standings.{is_nobody};
 ghost use Rattle.vme_standings.specs.declared.phases.GrantPhase.{GrantPhase as PhaseValue};
-ghost use Rattle.vme_standings.specs.declared.phases.GrantPhase.TheVariants.{Held};
+ghost use Rattle.vme_standings.specs.declared.phases.GrantPhase.TheVariants.{Granting, Held};
 ghost use Rattle.vme_standings.specs.declared.requests.Request.TheVariants.{Pending, Served};
 ghost use Rattle.vme_standings.specs.declared.segments.Segments.{Segments};
 ghost use Rattle.vme_standings.specs.declared.standings.Drivers.{Drivers};
@@ -54,8 +61,9 @@ ghost use Rattle.vme_standings.specs.declared.standings.Standings.{Standings};
 /// shows it. If nobody may have made a change, no capture is possible that ends with it. Nor is one
 /// that begins on a running bus with levels that are refused.
 ///
-/// What covers a bus tells of whoever holds it, or that nobody may hold it, and of whoever pulls an
-/// interrupt line.
+/// What covers a bus tells of whoever holds it, or that nobody may hold it; of the board at which a
+/// grant stands, or that none may stand at a board; of whoever drives AS*, and of what is shown
+/// then, or that AS* is high; and of whoever pulls an interrupt line.
 pub fn the_bus_stays_covered()
     ensures power_up { (p : Plan) (pins : List Pin) (new : Standings) → IsAccepted p
         → IsPowerUp p new → Covers p pins [] new }
@@ -123,6 +131,23 @@ pub fn the_bus_stays_covered()
     ensures free { (p : Plan) (pins : List Pin) (h : List Edge) (st : Standings)
         → Covers p pins h st → ((s : ℕ) → drive h (Slot s) Bbsy ≡ false)
         → (q : PhaseValue) × (has_phase st.phases q ≡ true) × (is_held q ≡ false) }
+    ensures granted { (p : Plan) (pins : List Pin) (h : List Edge) (st : Standings) (n s : ℕ)
+        → IsAccepted p → Covers p pins h st → Travels p h n s
+        → (is_of_level p n s
+        && has_phase st.phases (Granting n (place_before p n s))) ≡ true }
+    ensures nowhere { (version : Version) (p : Plan) (pins : List Pin) (h : List Edge)
+        (st : Standings) → IsAccepted p → IsLegal version p h → Covers p pins h st
+        → ((n s : ℕ) → Travels p h n s → ⊥)
+        → (q : PhaseValue) × (is_in_table q ≡ true) × (has_phase st.phases q ≡ true)
+        × (is_nowhere p q ≡ true) }
+    ensures addresser { (p : Plan) (pins : List Pin) (h : List Edge) (st : Standings) (s : ℕ)
+        → Covers p pins h st → drive h (Slot s) AddressStrobe ≡ true
+        → has st.addressers s ≡ true }
+    ensures shown { (p : Plan) (pins : List Pin) (h : List Edge) (st : Standings) (v : Cycle)
+        → Covers p pins h st → line_of p h AddressStrobe ≡ true → shown p h ≡ Some v
+        → option_map_or (says v) st.shown false ≡ true }
+    ensures quiet { (p : Plan) (pins : List Pin) (h : List Edge) (st : Standings)
+        → Covers p pins h st → line_of p h AddressStrobe ≡ false → st.shown ≡ None }
     ensures puller { (p : Plan) (pins : List Pin) (h : List Edge) (st : Standings) (n s : ℕ)
         → Covers p pins h st → is_on_level p n s ≡ true → drive h (Slot s) Irq ≡ true
         → (is_on_level p n s

@@ -7,6 +7,7 @@ use Rattle.vme_standings.proofs.JoinedLists.{followed, newest_by, newest_somebod
 use Rattle.vme_standings.proofs.JoinedRows.{seen_step, somebody}
 use Rattle.vme_standings.proofs.JoinedRuns.{runs, runs_covered}
 use Rattle.vme_standings.proofs.JoinedTells.{holder_told, nobody_told, puller_told}
+use Rattle.vme_standings.proofs.JoinedWaits.{grant_told, nowhere_told}
 use Rattle.vme_standings.proofs.joined_laws.the_bus_stays_covered.Goals as goal
 
 pub returns : goal.returns
@@ -36,5 +37,10 @@ returns c = record {
       head_runs p ok probed capture version probes may.before may.explains.begins lines low said cannot;
   holder = λ p pins h st s covers on. holder_told p pins h st covers s on;
   free = λ p pins h st covers nobody. nobody_told p pins h st covers nobody;
+  granted = λ p pins h st n s ok covers at. grant_told p ok h pins st covers n s at;
+  nowhere = λ version p pins h st ok legal covers none. nowhere_told p ok h pins st covers version legal none;
+  addresser = λ p pins h st s covers on. covers.addressers s on;
+  shown = λ p pins h st v covers low is. covers.shown.shown v low is;
+  quiet = λ p pins h st covers high. covers.shown.high high;
   puller = λ p pins h st n s covers on low. puller_told p pins h st covers n s on low;
 }
