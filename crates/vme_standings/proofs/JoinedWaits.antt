@@ -117,35 +117,44 @@ module _ (p : Plan) (ok : IsAccepted p) (h : List Edge) where
             let from = inside.1 in
             absurd (omega (arith, past, below, from))
 
+  -- a grant stands at the board whose input is the last segment that is low
+  travels_at : (c last s : ℕ) → c < 4 → InPhase p h (Granting c last) → is_follower p c last s ≡ true → Travels p h c s
+  travels_at c last s few i follows = record {
+    level = few;
+    member = is_member p (in_range p ok) c s few on;
+    granted = as_segment p h c (upstream p (grant_chain c) s) few ∙ (place_low p ok c few h s on ∙ (ap (is_place_low h c) here ∙ low));
+    unpassed = sym (output_of h c s (from_one p ok c s on)) ∙ high;
+    untaken = i.held s;
+  }
+    where
+      on : is_of_level p c s ≡ true
+      on = follower_on p ok c few last s follows
+
+      below : last < s
+      below = (follower_before p ok c few last s follows).below
+
+      here : place_before p c s ≡ last
+      here = same_number (place_before p c s) last (and_right (is_of_level p c s) _ follows)
+
+      itself : (a b : ℕ) → (a == a && nat_le b b) ≡ true
+      itself a b = grind (arith, nat_tests)
+
+      beyond : (seg same : Bool) (a b : ℕ) → b < a → (seg && (same && nat_le a b)) ≡ false
+      beyond seg same a b less = grind (arith, nat_tests)
+
+      low : is_place_low h c last ≡ true
+      low = i.low c last few i.named ∙ both (is_segment p c last) (c == c && nat_le last last) i.named (itself c last)
+
+      high : is_place_low h c s ≡ false
+      high = i.low c s few (board_segment p c s on) ∙ beyond (is_segment p c s) (c == c) s last below
+
   -- a grant that has not passed the last board stands at the next one
   travels_on : (c last : ℕ) → c < 4 → InPhase p h (Granting c last) → (last == end_place p c) ≡ false → (s : ℕ) × Travels p h c s
   travels_on c last few i is =
       let most : last ≤ end_place p c = end_last p ok c few last i.named in
       let less : last < end_place p c = grind (arith, nat_tests) in
       let y = next p ok c few last (end_place p c) i.named (above_zero p c (end_place p c) (end_segment p ok c few) (omega (arith, less))) less in
-      let member : is_of_level p c y.slot ≡ true = follower_on p ok c few last y.slot y.follows in
-      let below : last < y.slot = (follower_before p ok c few last y.slot y.follows).below in
-      let here : place_before p c y.slot ≡ last = same_number (place_before p c y.slot) last (and_right (is_of_level p c y.slot) _ y.follows) in (
-        y.slot,
-        record {
-          level = few;
-          member = is_member p (in_range p ok) c y.slot few member;
-          granted =
-              as_segment p h c (upstream p (grant_chain c) y.slot) few
-              ∙ (place_low p ok c few h y.slot member
-              ∙ (ap (is_place_low h c) here ∙ (i.low c last few i.named ∙ both (is_segment p c last) (c == c && nat_le last last) i.named (itself c last))));
-          unpassed =
-              sym (output_of h c y.slot (from_one p ok c y.slot member))
-              ∙ (i.low c y.slot few (board_segment p c y.slot member) ∙ beyond (is_segment p c y.slot) (c == c) y.slot last below);
-          untaken = i.held y.slot;
-        },
-      )
-    where
-      itself : (a b : ℕ) → (a == a && nat_le b b) ≡ true
-      itself a b = grind (arith, nat_tests)
-
-      beyond : (seg same : Bool) (a b : ℕ) → b < a → (seg && (same && nat_le a b)) ≡ false
-      beyond seg same a b less = grind (arith, nat_tests)
+      (y.slot, travels_at c last y.slot few i y.follows)
 
   module _ (pins : List Pin) (st : Standings) (covers : Covers p pins h st) where
     pub grant_told : (n s : ℕ) → Travels p h n s → (is_of_level p n s && has_phase st.phases (Granting n (place_before p n s))) ≡ true
