@@ -45,14 +45,14 @@ record Newest (p : Plan) (v : Version) (qs : List Pin) (g : List Edge) (s : Sigh
 
 newest : (p : Plan) (v : Version) (qs : List Pin) (g h : List Edge) → IsLegal v p (h ++ g) → (s : Sighting) (ss : List Sighting) → sightings p qs g h ≡ s ∷ ss → Newest p v qs g s ss
 newest p v qs g [] legal s ss is = absurd (cc)
-newest p v qs g (e ∷ h) legal s ss is = by_sight (seen p qs (h ++ g) e) refl is
+newest p v qs g (e ∷ h) legal s ss is = by_sight (seen p qs (h ++ g) e) refl is (λ x. newest p v qs g h legal.1 s ss x)
   where
     head_is : (a : Sighting) (others : List Sighting) → a ∷ others ≡ s ∷ ss → (a ≡ s) × (others ≡ ss)
     head_is a others x = (cc, cc)
 
-    by_sight : (o : Option Change) → seen p qs (h ++ g) e ≡ o → with_sighting e.driver o (sightings p qs g h) ≡ s ∷ ss → Newest p v qs g s ss
-    by_sight None none same = newest p v qs g h legal.1 s ss same
-    by_sight (Some c) some same =
+    by_sight : (o : Option Change) → seen p qs (h ++ g) e ≡ o → with_sighting e.driver o (sightings p qs g h) ≡ s ∷ ss → (sightings p qs g h ≡ s ∷ ss → Newest p v qs g s ss) → Newest p v qs g s ss
+    by_sight None none same next = next same
+    by_sight (Some c) some same next =
         let both = head_is (record { driver = e.driver; change = c }) (sightings p qs g h) same in
         record { rest = h; edge = e; change = c; legal = legal; seen_is = some; is = both.0; earlier = both.1 }
 

@@ -46,6 +46,9 @@ none_wait p v (entry.Low x ∷ said) known waits text h = none_wait p v said kno
 none_wait p v (entry.Moment m ∷ said) known waits text h = none_wait p v said h.0 waits text h.2
 none_wait p v (entry.Change c ∷ said) known waits text h = h.5.1
 
+none_more : (s : SeenChange) (waits : List SeenChange) → s ∷ waits ≡ [] → ⊥
+none_more s waits h = cc
+
 module _ (p : Plan) (ok : IsAccepted p) where
   -- a head that is refused begins no possible capture
   unbegun : (v : Version) (said : List Entry) → AllSaid p said → (waits : List SeenChange) (lines : List ℕ) → Judged p v None said None waits lines → CannotBegin p v said → IsPossible p (capture_of v said) → ⊥
@@ -72,12 +75,12 @@ module _ (p : Plan) (ok : IsAccepted p) where
           lines = has.lines;
           names = names p ok x.version x.said all has.before has.waits has.lines has.judged;
           last = x.is.last;
-          is = x.is.is ∙ ap (λ l. l ++ x.is.last) (has.is ∙ (ap (λ l. has.lines ++ l) (nothing_more has.waits (none_wait p x.version x.said has.before has.waits has.lines has.judged) has.takes) ∙ append-nil has.lines));
+          is = x.is.is ∙ ap (λ l. l ++ x.is.last) (has.is ∙ (ap (λ l. has.lines ++ l) (nothing_more has.known x.is.after has.sample has.waits (none_wait p x.version x.said has.before has.waits has.lines has.judged) has.takes) ∙ append-nil has.lines));
         }
       where
-        nothing_more : {old new : Known} {lines : List ℕ} (waits : List SeenChange) → waits ≡ [] → TakesSample p old waits new lines → lines ≡ []
-        nothing_more [] is h = h.1
-        nothing_more (s ∷ waits) is h = absurd (cc)
+        nothing_more : (old new : Known) (lines : List ℕ) (waits : List SeenChange) → waits ≡ [] → TakesSample p old waits new lines → lines ≡ []
+        nothing_more old new lines [] is h = h.1
+        nothing_more old new lines (s ∷ waits) is h = absurd (none_more s waits is)
 
     stop_refused : (text : List ℕ) → StopsIn p None (read_of p bytes) text → IsRefused p (read_of p bytes) text
     stop_refused text x = by_next x.next x.are x.stops
@@ -123,9 +126,9 @@ module _ (p : Plan) (ok : IsAccepted p) where
         all : AllSaid p x.said
         all = read_all p bytes x.said x.are
 
-        nothing_stops : {known : Known} {text : List ℕ} (waits : List SeenChange) → waits ≡ [] → StopsSample p known waits text → ⊥
-        nothing_stops [] is h = h
-        nothing_stops (s ∷ waits) is h = cc
+        nothing_stops : (known : Known) (text : List ℕ) (waits : List SeenChange) → waits ≡ [] → StopsSample p known waits text → ⊥
+        nothing_stops known text [] is h = h
+        nothing_stops known text (s ∷ waits) is h = absurd (none_more s waits is)
 
         by_end : IsUnbegun p x.version None x.said text ⊎ IsStoppedAtEnd p x.version None x.said text → IsRefused p (read_of p bytes) text
         by_end (inl u) = record {
@@ -141,7 +144,7 @@ module _ (p : Plan) (ok : IsAccepted p) where
           last = no_beginning;
           is = u.is;
         }
-        by_end (inr s) = absurd (nothing_stops s.waits (none_wait p x.version x.said (Some s.known) s.waits s.lines s.judged) s.stops)
+        by_end (inr s) = absurd (nothing_stops s.known s.others s.waits (none_wait p x.version x.said (Some s.known) s.waits s.lines s.judged) s.stops)
 
 pub possible_named : (p : Plan) (bytes : List ℕ) (s : Streams) → IsAccepted p → Probes p None bytes s (Ok Done) → (text : List ℕ) × NamesAll p (read_of p bytes) text × Wrote s text
 possible_named p bytes s ok h = (h.1, whole_named p ok bytes h.1 h.2, h.3)

@@ -1,6 +1,6 @@
 -- What is known behind a capture's changes is what the laws of `vme_standings` speak of.
 use Rattle.std.proofs.Common.{◌≡◌, ◌∙◌, ◌<◌, ◌≤◌, ◌++◌, ◌∷◌, [], ℕ, zero, suc, Bool, true, false, List, Option, Some, None, refl, sym, ap, subst, arith, is_some, not}
-use Rattle.std.specs.Prelude.{◌&&◌, ◌||◌, if◌then◌else◌, is_none, map, nat_lt, option_map}
+use Rattle.std.specs.Prelude.{◌==◌, ◌&&◌, ◌||◌, if◌then◌else◌, is_none, map, nat_lt, option_map}
 use Rattle.std.specs.Option.{option_map_or}
 use Rattle.std.proofs.lemmas.Bool.{and_parts}
 use Rattle.std.proofs.lemmas.Bool.Decides.{nat_tests}
@@ -9,8 +9,8 @@ use Rattle.vme_model.specs.declared.sets.ChainId.{ChainId}
 use Rattle.vme_model.specs.declared.signals.Version.{Version}
 use Rattle.vme_model.specs.Accepted.{IsAccepted}
 use Rattle.vme_model.specs.Plan.{Plan, board, is_active, works}
-use Rattle.vme_model.proofs.Ranges.{in_range}
-use Rattle.vme_histories.proofs.AllowedBoards.{stands}
+use Rattle.vme_model.proofs.Members.{found_row}
+use Rattle.vme_model.proofs.Ranges.{IsRowInRange, in_range}
 use Rattle.vme_captures.specs.declared.levels.Levels.{Levels}
 use Rattle.vme_captures.specs.declared.reader.Probe.{Probe}
 use Rattle.vme_captures.specs.declared.signals.Change.{Change}
@@ -115,9 +115,12 @@ probe_found p said g (q ∷ qs) = by_test (is_same_segment (wire_of p q) g) (pro
     by_test true next = refl
     by_test false next = next
 
+not_zero : (s : ℕ) → (suc s == 0) ≡ false
+not_zero s = grind (arith, nat_tests)
+
 one_segment : (c : ChainId) (s : ℕ) → segment_of c s ≡ segment_at c s
 one_segment c zero = refl
-one_segment c (suc s) = refl
+one_segment c (suc s) = ap (λ b. record { chain = c; place = if b then None else Some (suc s) }) (not_zero s)
 
 in_probes : (low : Bool) (p : Plan) (said : List Entry) (c : ChainId) (s : ℕ)
     → is_in low (probes_of p said) (segment_of c s) ≡ option_map_or (λ (r : Probe). r.low || not low) (option_map (probe_of p said) (pin_on p (pins said) (segment_at c s))) false
@@ -155,9 +158,12 @@ module _ (p : Plan) (ok : IsAccepted p) where
       by_board : (o : Option Row) → board p s ≡ o → option_map_or (works c) o false ≡ true → s < 22
       by_board None is x = absurd (cc)
       by_board (Some r) is x =
-          let to = (stands p s r ok is).to_last in
-          let most = (in_range p ok).most in
-          omega (arith, to, most)
+          let range = in_range p ok in
+          let found = found_row (IsRowInRange p) p.rows s r range.rows is in
+          let to = found.fact.to_last in
+          let same = found.slot in
+          let most = range.most in
+          omega (arith, to, same, most)
 
   no_pin_beyond : (qs : List Pin) (c : ChainId) (s : ℕ) → 22 ≤ s → pin_on p qs (segment_at c s) ≡ None
   no_pin_beyond qs c zero far = absurd (omega arith)
@@ -296,16 +302,16 @@ module _ (p : Plan) (ok : IsAccepted p) where
   tied v (entry.Pin q ∷ said) all k waits text h = absurd (too_late v said k waits text (not (is_running said)) h (said_stands p said (entry.Pin q) all.0))
   tied v (entry.Running ∷ said) all k waits text h = absurd (too_late v said k waits text (not (is_running said)) h (said_stands p said entry.Running all.0))
   tied v (entry.Low x ∷ said) all k waits text h = absurd (too_late v said k waits text (is_running said) h (said_stands p said (entry.Low x) all.0))
-  tied v (entry.Moment m ∷ said) all k waits text h = by_before h.0 h.2 h.3
+  tied v (entry.Moment m ∷ said) all k waits text h = by_before h.0 h.2 h.3 (λ j judged. tied v said all.1 j waits text judged)
     where
       same : h.1 ≡ k
       same = some_same h.1 k (sym h.4)
 
-      by_before : (before : Option Known) → Judged p v None said before waits text → Begun p v said before h.1 → Tied v (entry.Moment m ∷ said) k
-      by_before None judged b =
+      by_before : (before : Option Known) → Judged p v None said before waits text → Begun p v said before h.1
+          → ((j : Known) → Judged p v None said (Some j) waits text → Tied v said j) → Tied v (entry.Moment m ∷ said) k
+      by_before None judged b earlier =
           at_moment v said m k (at_head v said all.1 (begun p v None said waits text judged) k (subst (λ x. Begins p v said x) same b))
-      by_before (Some j) judged b =
-          at_moment v said m k (subst (λ x. Tied v said x) (b ∙ same) (tied v said all.1 j waits text judged))
+      by_before (Some j) judged b earlier = at_moment v said m k (subst (λ x. Tied v said x) (b ∙ same) (earlier j judged))
   tied v (entry.Change c ∷ said) all k waits text h =
       subst (λ x. Tied v (entry.Change c ∷ said) x) (some_same h.3 k (sym h.6))
       (at_change v said c h.0 h.3 h.5.0.drivers (tied v said all.1 h.0 h.1 h.2 h.4) h.5.0.follows)

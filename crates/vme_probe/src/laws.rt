@@ -32,7 +32,6 @@ ghost use Rattle.vme_standings.specs.declared.standings.Standings.{Standings};
 /// it in some list of edges that keeps the rules and shows what was captured up to there. If it is
 /// impossible, there is no such list for what was captured up to the change that is refused, or for
 /// the head. Each change is a sample of its own here.
-#[tactic(auto, using(crate::proofs::Refused::possible_named, crate::proofs::Refused::impossible_refused))]
 pub fn no_legal_bus_is_left_out()
     ensures possible { (p : Plan) (bytes : List ℕ) (s : Streams) → IsAccepted p
         → Probes p None bytes s (Ok Done)
