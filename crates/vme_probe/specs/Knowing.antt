@@ -167,7 +167,8 @@ abbrev pub seen_at : List Entry → Change → SeenChange
 seen_at said c = record { moment = unwrap_or (last_moment said) 0; change = c }
 
 -- Behind what was said: what is known, once the head has ended, the changes that wait for their
--- sample to be complete, and the lines that are written. Each change may have been made by somebody.
+-- sample to be complete, and the lines that are written. Somebody may have made each change that was
+-- judged.
 abbrev pub Judged :
     Plan → Version → Option ℕ → List Entry → Option Known → List SeenChange → List ℕ → Type 0
 Judged p version skew [] known waits text = (known ≡ None) × (waits ≡ []) × (text ≡ [])
@@ -217,8 +218,8 @@ pub record IsOverfull (p : Plan) (version : Version) (skew : Option ℕ) (said :
   pub joined : joins most waiting (seen_at said c).moment ≡ true
   pub full : length waiting ≡ 12
 
--- The lines of all changes of a capture that says this, and what is known then: each change may have
--- been made.
+-- The lines of all changes of a capture that says this, and what is known then: somebody may have
+-- made each change.
 pub record HasLines (p : Plan) (version : Version) (skew : Option ℕ) (said : List Entry) (after : Known) (text : List ℕ) : Type 0 where
   pub before : Option Known
   pub waits : List SeenChange

@@ -99,8 +99,8 @@ abbrev pub IsOfCompleted : Plan → ℕ → List SeenChange → SeenChange → K
 IsOfCompleted p skew waiting s old text =
     (joins skew waiting s.moment ≡ false) × IsOfSample p old waiting text
 
--- a change was taken in with `--skew`, and it waits; the sample before it was judged and written, if
--- it is complete
+-- a change was taken in with `--skew`, and it waits; the sample before it was judged and written,
+-- if it is complete
 abbrev pub SeenTaken :
     Plan → ℕ → List SeenChange → SeenChange → Known → Known → List SeenChange
     → Option (List ℕ) → Option (List ℕ) → Result (Option Status) ProbeFault → Type 0

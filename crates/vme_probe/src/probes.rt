@@ -156,7 +156,7 @@ impl Judging {
     /// status.
     ///
     /// # Errors
-    /// X8 if that failed; a prefix of the text was written then.
+    /// F5; X8 if a text could not be written, and a prefix of it was written then.
     fn take_change<W: Write>(
         &mut self,
         plan: &Plan,
@@ -191,7 +191,7 @@ impl Judging {
     /// result is the status.
     ///
     /// # Errors
-    /// X8 if that failed; a prefix of the text was written then.
+    /// F5; X8 if a text could not be written, and a prefix of it was written then.
     fn take_entry<W: Write>(
         &mut self,
         plan: &Plan,
@@ -220,7 +220,7 @@ impl Judging {
     /// status.
     ///
     /// # Errors
-    /// The faults of the capture; X8.
+    /// The faults of the capture; F5; X8.
     fn take_byte<W: Write>(
         &mut self,
         plan: &Plan,
@@ -243,7 +243,7 @@ impl Judging {
     /// status.
     ///
     /// # Errors
-    /// The faults of the capture; X8.
+    /// The faults of the capture; F5; X8.
     fn take_piece<W: Write>(
         &mut self,
         plan: &Plan,
@@ -328,7 +328,7 @@ impl Judging {
     /// or if it is impossible.
     ///
     /// # Errors
-    /// The faults of the capture; X8.
+    /// The faults of the capture; F5; X8.
     fn take_read<R: Read, W: Write>(
         &mut self,
         plan: &Plan,
@@ -339,7 +339,8 @@ impl Judging {
         requires { ReadsSome plan.now self.old }
         ensures reads { OnOk result (ReadsSome plan.now self.new) }
         ensures taken { (skew : Option ℕ) (from out_from : Option (List ℕ))
-            → ReadsTo plan.now skew self.old from (R.remaining capture.old) out_from (W.contents out.old)
+            → ReadsTo plan.now skew self.old from (R.remaining capture.old)
+            out_from (W.contents out.old)
             → ReadTaken plan.now skew self.new from (R.remaining capture.new)
             out_from (W.contents out.new) result }
     {
@@ -368,7 +369,8 @@ impl Judging {
         out: &mut W,
     ) -> Result<Status, ProbeFault>
         requires { IsNew (skew_of self.old.sampling) self.old }
-        ensures { ProbesInput (skew_of self.old.sampling) (streams (R.remaining capture.old) (R.remaining capture.new)
+        ensures { ProbesInput (skew_of self.old.sampling)
+            (streams (R.remaining capture.old) (R.remaining capture.new)
             (W.contents out.old) (W.contents out.new)) plan.now result }
     {
         let mut buffer = [0u8; PIECE];
@@ -383,7 +385,7 @@ impl Judging {
     /// Does what [`Judging::read_all`] does. At a fault, the writer hands on what it holds back.
     ///
     /// # Errors
-    /// The faults of the capture; X8.
+    /// The faults of the capture; F5; X8.
     fn judge<R: Read, W: Write>(
         &mut self,
         plan: &Plan,
@@ -391,7 +393,8 @@ impl Judging {
         out: &mut W,
     ) -> Result<Status, ProbeFault>
         requires { IsNew (skew_of self.old.sampling) self.old }
-        ensures { ProbesInput (skew_of self.old.sampling) (streams (R.remaining capture.old) (R.remaining capture.new)
+        ensures { ProbesInput (skew_of self.old.sampling)
+            (streams (R.remaining capture.old) (R.remaining capture.new)
             (W.contents out.old) (W.contents out.new)) plan.now result }
     {
         match self.read_all(plan, capture, out) {
