@@ -1,9 +1,8 @@
 -- Whoever may have made a change is named, and a change that nobody may have made ends no possible
 -- capture: `laws`.
-use Rattle.std.proofs.Common.{◌≡◌, ◌∙◌, ◌-◌, ◌++◌, ◌∷◌, [], ℕ, zero, suc, true, false, List, Option, Some, None, length, reverse, refl, sym, ap, subst, arith}
+use Rattle.std.proofs.Common.{◌≡◌, ◌∙◌, ◌-◌, ◌++◌, ◌∷◌, [], ℕ, suc, true, false, List, Option, Some, None, length, reverse, refl, sym, ap, subst, arith}
 use Rattle.std.specs.List.{slice_get}
 use Rattle.std.proofs.lemmas.List.{length-reverse, reverse-append}
-use Rattle.vme_model.specs.declared.signals.Driver.{Driver}
 use Rattle.vme_model.specs.declared.signals.Edge.{Edge}
 use Rattle.vme_model.specs.declared.signals.Version.{Version}
 use Rattle.vme_model.specs.Accepted.{IsAccepted}
@@ -14,7 +13,7 @@ use Rattle.vme_captures.specs.declared.signals.Entry.{Entry}
 use Rattle.vme_captures.specs.declared.signals.Entry.TheVariants as entry
 use Rattle.vme_captures.specs.declared.signals.Pin.{Pin}
 use Rattle.vme_captures.specs.Changes.{agrees, seen}
-use Rattle.vme_captures.specs.Possible.{AgreeEach, Begins, Explains, IsPossible, Sighting, sightings, with_sighting}
+use Rattle.vme_captures.specs.Possible.{AgreeEach, Explains, IsPossible, Sighting, sightings, with_sighting}
 use Rattle.vme_captures.specs.Reading.{capture_of, changes, pins}
 use Rattle.vme_standings.specs.declared.standings.Drivers.{Drivers}
 use Rattle.vme_standings.specs.declared.standings.Standings.{Standings}
@@ -27,7 +26,7 @@ use Rattle.vme_standings.proofs.JoinedCaptures.{explained, never_impossible}
 use Rattle.vme_standings.proofs.JoinedRows.{seen_step}
 use Rattle.vme_samples.specs.declared.samples.SeenChange.{SeenChange}
 use Rattle.vme_probe.specs.declared.judging.Known.{Known}
-use Rattle.vme_probe.specs.Knowing.{Follows, Judged, Stops}
+use Rattle.vme_probe.specs.Knowing.{Judged, Stops}
 use Rattle.vme_probe.specs.Naming.{AreAllMakers, Names}
 use Rattle.vme_probe.proofs.Said.{AllSaid}
 use Rattle.vme_probe.proofs.Tied.{Tied, same_head, tied}

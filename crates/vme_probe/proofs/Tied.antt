@@ -1,5 +1,5 @@
 -- What is known behind a capture's changes is what the laws of `vme_standings` speak of.
-use Rattle.std.proofs.Common.{◌≡◌, ◌∙◌, ◌<◌, ◌≤◌, ◌++◌, ◌∷◌, [], ℕ, zero, suc, Bool, true, false, List, Option, Some, None, refl, sym, ap, subst, arith, is_some, not}
+use Rattle.std.proofs.Common.{◌≡◌, ◌∙◌, ◌<◌, ◌≤◌, ◌∷◌, [], ℕ, zero, suc, Bool, true, false, List, Option, Some, None, refl, sym, ap, subst, arith, is_some, not}
 use Rattle.std.specs.Prelude.{◌==◌, ◌&&◌, ◌||◌, if◌then◌else◌, is_none, map, nat_lt, option_map}
 use Rattle.std.specs.Option.{option_map_or}
 use Rattle.std.proofs.lemmas.Bool.{and_parts}
@@ -16,7 +16,6 @@ use Rattle.vme_captures.specs.declared.reader.Probe.{Probe}
 use Rattle.vme_captures.specs.declared.signals.Change.{Change}
 use Rattle.vme_captures.specs.declared.signals.Entry.{Entry}
 use Rattle.vme_captures.specs.declared.signals.Entry.TheVariants as entry
-use Rattle.vme_captures.specs.declared.signals.Line.{Line}
 use Rattle.vme_captures.specs.declared.signals.Line.TheVariants as on_line
 use Rattle.vme_captures.specs.declared.signals.Pin.{Pin}
 use Rattle.vme_captures.specs.declared.signals.Segment.{Segment}
@@ -24,9 +23,9 @@ use Rattle.vme_captures.specs.declared.signals.Signal.{Signal}
 use Rattle.vme_captures.specs.declared.signals.Signal.TheVariants as signal
 use Rattle.vme_captures.specs.Feeding.{probe_of, probes_of}
 use Rattle.vme_captures.specs.Possible.{is_among}
-use Rattle.vme_captures.specs.Reading.{capture_of, changes, is_left_low, is_running, last_moment, lows, may_stand, pins}
-use Rattle.vme_captures.specs.Signals.{is_line, is_same_segment, is_same_signal, is_signal}
-use Rattle.vme_captures.specs.Spelling.{is_entry, may_be_low}
+use Rattle.vme_captures.specs.Reading.{capture_of, changes, is_left_low, is_running, last_moment, lows, pins}
+use Rattle.vme_captures.specs.Signals.{is_same_segment, is_same_signal, is_signal}
+use Rattle.vme_captures.specs.Spelling.{may_be_low}
 use Rattle.vme_captures.specs.Wires.{pin_on, wire_of}
 use Rattle.vme_captures.proofs.Same.{signal_same}
 use Rattle.vme_standings.specs.declared.segments.Segments.{Segments}
@@ -35,7 +34,7 @@ use Rattle.vme_standings.specs.declared.standings.Probed.{Probed}
 use Rattle.vme_standings.specs.declared.standings.Standings.{Standings}
 use Rattle.vme_standings.specs.Covers.{AreProbed, segment_at}
 use Rattle.vme_standings.specs.Behind.{IsBehind}
-use Rattle.vme_standings.specs.Following.{Follows, HeadSays, RunsAs, StartsAs}
+use Rattle.vme_standings.specs.Following.{Follows, HeadSays, StartsAs}
 use Rattle.vme_standings.specs.Hidden.{HasMoved}
 use Rattle.vme_standings.proofs.JoinedSegments.{probed_works}
 use Rattle.vme_samples.specs.declared.samples.SeenChange.{SeenChange}

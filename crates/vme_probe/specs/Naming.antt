@@ -1,13 +1,12 @@
 -- What is printed of a capture, beside all buses that keep the rules and show it. (What such a bus
 -- shows is `vme_captures.specs.Possible`.) What was said is looked back at, so these lists have the
 -- newest first.
-use Rattle.std.specs.Prelude.{◌≡◌, ◌-◌, ◌++◌, ◌∷◌, [], ℕ, List, Option, None, Some, length, reverse}
+use Rattle.std.specs.Prelude.{◌≡◌, ◌-◌, ◌++◌, ◌∷◌, [], ℕ, List, None, Some, length, reverse}
 use Rattle.vme_model.specs.declared.signals.Driver.{Driver}
 use Rattle.vme_model.specs.declared.signals.Version.{Version}
 use Rattle.vme_model.specs.Plan.{Plan}
 use Rattle.vme_captures.specs.declared.signals.Entry.{Entry}
 use Rattle.vme_captures.specs.declared.signals.Entry.TheVariants as entry
-use Rattle.vme_captures.specs.declared.CaptureFault.{CaptureFault}
 use Rattle.vme_captures.specs.Possible.{Capture, IsBy, IsPossible}
 use Rattle.vme_captures.specs.Reading.{Reading, capture_of}
 use Rattle.vme_standings.specs.declared.standings.Drivers.{Drivers}
