@@ -1,48 +1,24 @@
-//! Boards, edges and pins that the tests use.
+//! Boards and edges that the tests use.
 use bitflags::Flags;
-use vme_model::{
-    BusLevels, Driver, Edge, InterrupterRow, IrqKind, Levels, Pins, Release, RequesterRow, Row,
-    Wire,
-};
+use vme_model::{Driver, Edge, InterrupterRow, IrqKind, Levels, Release, RequesterRow, Row, Wire};
 
 pub const FIRST: Driver = Driver::Slot(1);
 
 pub const SECOND: Driver = Driver::Slot(2);
 
-pub const THIRD: Driver = Driver::Slot(3);
-
-/// The edge of a driver on a wire, without a value.
-pub fn edge(driver: Driver, wire: Wire, fall: bool) -> Edge {
+pub fn fall(driver: Driver, wire: Wire) -> Edge {
     Edge {
         driver,
         wire,
-        fall,
+        fall: true,
         value: None,
     }
 }
 
-pub fn fall(driver: Driver, wire: Wire) -> Edge {
-    edge(driver, wire, true)
-}
-
 pub fn rise(driver: Driver, wire: Wire) -> Edge {
-    edge(driver, wire, false)
-}
-
-/// What a driver sees of a bus that nobody drives.
-pub fn quiet() -> Pins {
-    Pins {
-        requests: BusLevels::of_lines([false; 4]),
-        bbsy: false,
-        bclr: false,
-        address_strobe: false,
-        data_strobe: false,
-        dtack: false,
-        berr: false,
-        irq: Levels::of_lines([false; 7]),
-        shown: None,
-        grant_in: false,
-        iack_in: false,
+    Edge {
+        fall: false,
+        ..fall(driver, wire)
     }
 }
 

@@ -35,11 +35,6 @@ impl<'a> Pieces<'a> {
             ..self
         }
     }
-
-    /// How often it was read.
-    pub fn reads(&self) -> u32 {
-        self.reads
-    }
 }
 
 impl<'a> Read for Pieces<'a> {

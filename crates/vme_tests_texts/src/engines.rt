@@ -5,9 +5,8 @@ use vme_drive::{Progress, drive_found};
 use vme_goals::{Aim, Event, Goal};
 use vme_model::Version;
 use vme_reading::EngineFault;
-use vme_trace::Fault;
 
-/// Asserts the text of a fault.
+/// Asserts the text of a fault. The others are printed in cases.
 fn assert_text(rt: &(impl Abort + AllocGlobal), fault: &EngineFault, wanted: &str) {
     assert!(rt; matches!(fault.to_string(rt.alloc()), Ok(text) if text.as_str() == wanted));
 }
@@ -16,12 +15,6 @@ fn assert_text(rt: &(impl Abort + AllocGlobal), fault: &EngineFault, wanted: &st
 fn faults_have_their_texts(rt: HostRuntime) {
     assert_text(&rt, &EngineFault::CannotRead, "F1 cannot read the scenario");
     assert_text(&rt, &EngineFault::TooLong, "F2 the scenario is too long");
-    assert_text(&rt, &EngineFault::NoMemory, "F3 no memory");
-    assert_text(
-        &rt,
-        &EngineFault::Trace(Fault::CutOff),
-        "X4 the trace is cut off",
-    );
 }
 
 /// Two interrupters of one level on one chain.

@@ -1,5 +1,5 @@
-//! The tests of what is read and written, over public calls alone: traces, scenarios, the words of
-//! the command line and the texts of faults, with devices that fail.
+//! The tests of what is read and written, over public calls alone: traces and reports on devices
+//! that fail, and the texts of faults that no case prints.
 //!
 //! The proof of a body grows with the square of the number of its live variables. So cases stand in
 //! tables, and what is asserted for a case stands in a small function.
@@ -14,8 +14,4 @@ mod engines;
 #[cfg(test)]
 mod reads;
 #[cfg(test)]
-mod scenario;
-#[cfg(test)]
 mod trace;
-#[cfg(test)]
-mod words;

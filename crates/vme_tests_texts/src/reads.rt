@@ -396,14 +396,3 @@ fn an_interrupted_trace_is_tried_so_often(rt: HostRuntime) {
     assert_same(&rt, pumped(&rt, TRIES - 1), Err(Fault::Header));
     assert_same(&rt, pumped(&rt, TRIES), Err(Fault::Read));
 }
-
-#[test]
-fn a_line_is_too_long_at_its_65th_byte(rt: HostRuntime) {
-    let mut edges: Vec<Edge> = Vec::new(rt.alloc());
-    let mut reader = Reader::new();
-    let header = reader.feed(b"vme 1\n", &mut edges);
-    let most = reader.feed(&[b'a'; 64], &mut edges);
-    let more = reader.feed(b"a", &mut edges);
-    let wanted = (Ok(()), Ok(()), Err(Fault::TooLong { n: 2 }));
-    assert_same(&rt, (header, most, more), wanted);
-}
