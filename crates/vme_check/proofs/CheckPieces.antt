@@ -22,7 +22,7 @@ use Rattle.vme_reading.specs.declared.EngineFault.{EngineFault}
 use Rattle.vme_reading.specs.declared.EngineFault.TheVariants as fault
 use Rattle.vme_check.specs.declared.checks.Finding.{Finding}
 use Rattle.vme_check.specs.declared.checks.Finding.TheVariants.{Legal, Illegal}
-use Rattle.vme_reading.specs.Streams.{Streams, streams, ReadNothing, WroteNothing}
+use Rattle.vme_reading.specs.Streams.{streams, ReadNothing, WroteNothing}
 use Rattle.vme_reading.specs.Outcomes.{Answer, LentAsking, bench}
 use Rattle.vme_reading.specs.Refusals.{or_refusal, first_refusal, refusal_of}
 use Rattle.vme_check.specs.Checking.{finding_line, finding_status, IsFound, FindsNothing, Finds, ChecksInput}
@@ -31,11 +31,9 @@ use Rattle.vme_check.specs.Unrefused.{AreAccepted, first_refused_of}
 use Rattle.vme_reading.proofs.WrittenLines.{kept_append}
 use Rattle.vme_reading.proofs.FirstRefusals.{refusal_behind, refusal_stays, all_kept}
 use Rattle.vme_reading.specs.Pieces.{Came}
-use Rattle.vme_reading.specs.Begun.{IsUnread}
-use Rattle.vme_reading.specs.Waiting.{StopsWaiting}
 use Rattle.vme_reading.specs.Readings.{LeavesNow, ReadsInput, ReadsLent}
 use Rattle.vme_reading.proofs.ReadOn.{came_begins}
-use Rattle.vme_reading.proofs.Waits.{stops_unread, waits_now}
+use Rattle.vme_reading.proofs.Waits.{waits_now}
 
 -- ---- the first refusal among answers
 
@@ -79,17 +77,6 @@ module _ (first now : State) (n m : ℕ) (es rest chunk behind : List Edge) (spl
 
 refusal_known : (p : Plan) (v : Version) (es : List Edge) (w : Option Version) → w ≡ Some v → refusal_of p w es ≡ first_refusal 1 (bench p v) es
 refusal_known p v es w e = rw e refl
-
--- a check waits for a refusal
-found_none : (p : Plan) (all : List ℕ) (s : Streams) (f : Fault) → StopsWaiting (λ w es. refusal_of p w es ≡ None) all s f → FindsNothing p all s f
-found_none p all s Header h = h
-found_none p all s (Line n) h = h
-found_none p all s (TooLong n) h = h
-found_none p all s CutOff h = h
-found_none p all s Read h = h
-found_none p all s Memory h = h
-found_none p all s Failed h = h
-found_none p all s Write h = h
 
 module _ (p : Plan) (v : Version) (before es : List Edge) (b : State) (n : ℕ) (run : AreAccepted p v before b n) where
   -- the first refusal in a piece is that of all edges
@@ -140,11 +127,7 @@ module _ (p : Plan) (v : Version) (es : List Edge) (more : Result Bool Fault) (o
   -- a fault of the trace
   pub finds_stop : (f : Fault) → more ≡ Err f → LeavesNow (Finds p) v es more old new (Err f)
   finds_stop f is = λ trace from to came.
-      found_none p trace (streams from to old new) f (waits_now (λ w fs. refusal_of p w fs ≡ None) v trace (streams from to old new) es more came run.unrefused f is)
-
--- without a header line
-pub finds_unbegun : (p : Plan) (trace : List ℕ) (s : Streams) (f : Fault) → StopsWaiting IsUnread trace (streams s.from s.to None None) f → Finds p trace s (Err f)
-finds_unbegun p trace s f h = found_none p trace s f (stops_unread (λ w es. refusal_of p w es ≡ None) refl trace s f h)
+      waits_now (λ w fs. refusal_of p w fs ≡ None) v trace (streams from to old new) es more came run.unrefused f is
 
 -- ---- what was found is written
 

@@ -1,20 +1,20 @@
 -- What a check of a trace finds, writes and answers.
 use Rattle.std.specs.Prelude.{◌≡◌, ◌⊎◌, ◌+◌, ◌++◌, ◌∷◌, [], ℕ, List, length, codes, decimal, Some, None, Result, Ok, Err}
-use Rattle.vme_model.specs.declared.signals.Edge.{Edge}
 use Rattle.vme_model.specs.Plan.{Plan}
 use Rattle.vme_model.specs.Text.{Reading, read_of}
 use Rattle.vme_model.specs.Report.{verdict_text}
 use Rattle.vme_trace.specs.declared.Fault.{Fault}
-use Rattle.vme_trace.specs.declared.Fault.TheVariants.{Header, Line, TooLong, CutOff, Read, Memory, Failed, Write}
+use Rattle.vme_trace.specs.declared.Fault.TheVariants.{Write}
 use Rattle.vme_reading.specs.declared.Status.{Status}
 use Rattle.vme_reading.specs.declared.Status.TheVariants.{Done, SomeRefused}
 use Rattle.vme_reading.specs.declared.EngineFault.TheVariants as fault
 use Rattle.vme_check.specs.declared.checks.Finding.{Finding}
 use Rattle.vme_check.specs.declared.checks.Finding.TheVariants.{Legal, Illegal}
 use Rattle.vme_reading.specs.LegalTraces.{IsLegalTrace}
-use Rattle.vme_reading.specs.Refusals.{IsUnrefused, refusal_of}
-use Rattle.vme_reading.specs.Streams.{Streams, IsInput, HasConsumed, IsReadOut, Wrote, WroteFront, WroteNothing}
-use Rattle.vme_reading.specs.Outcomes.{Answer, HasFault, CanGoOn}
+use Rattle.vme_reading.specs.Refusals.{refusal_of}
+use Rattle.vme_reading.specs.Streams.{Streams, IsInput, IsReadOut, Wrote, WroteFront, WroteNothing}
+use Rattle.vme_reading.specs.Outcomes.{Answer}
+use Rattle.vme_reading.specs.Waiting.{StopsWaiting}
 
 -- What a check finds in a trace.
 abbrev pub IsFound : Plan → Reading → Streams → Finding → Type 0
@@ -31,20 +31,9 @@ abbrev pub finding_status : Finding → Status
 finding_status (Legal edges) = Done
 finding_status (Illegal n refused) = SomeRefused
 
--- Why nothing is found: no edge before the fault is refused. X1 to X4: of the trace. X5: of what
--- was read, which can go on. X6: of the edges that found room.
+-- Why nothing is found: the trace has a fault, and no edge before it is refused.
 abbrev pub FindsNothing : Plan → List ℕ → Streams → Fault → Type 0
-FindsNothing p trace s Header = HasFault trace Header × IsUnrefused p (read_of trace)
-FindsNothing p trace s (Line n) = HasFault trace (Line n) × IsUnrefused p (read_of trace)
-FindsNothing p trace s (TooLong n) = HasFault trace (TooLong n) × IsUnrefused p (read_of trace)
-FindsNothing p trace s CutOff = HasFault trace CutOff × IsUnrefused p (read_of trace)
-FindsNothing p trace s Read =
-    (bytes : List ℕ) × HasConsumed s bytes × CanGoOn bytes × IsUnrefused p (read_of bytes)
-FindsNothing p trace s Memory =
-    (es : List Edge) × (others : List Edge) × ((read_of trace).edges ≡ es ++ others)
-    × (refusal_of p (read_of trace).version es ≡ None)
-FindsNothing p trace s Failed = ⊥
-FindsNothing p trace s Write = ⊥
+FindsNothing p = StopsWaiting (λ version es. refusal_of p version es ≡ None)
 
 -- What is found in a trace on a plan, or why nothing is.
 abbrev pub Finds : Plan → List ℕ → Streams → Result Finding Fault → Type 0

@@ -1,5 +1,6 @@
 //! Checking a trace: the first edge that is refused, or that all of them are legal.
 ghost use Rattle.std.specs.Prelude.{◌≡◌, ◌+◌, ◌<◌, ◌≤◌, ◌^◌, None, length, map, OnOk, OnErr, IfOk, IfErr};
+ghost use Rattle.std.proofs.Common.{refl};
 ghost use Rattle.std.specs.Io.KnownBytes.{Appends};
 ghost use Rattle.vme_model.specs.Locality.{AreWellFormed};
 ghost use Rattle.vme_model.specs.Verdict.{kept};
@@ -8,9 +9,10 @@ ghost use Rattle.vme_trace.specs.Writing.{AppendsFront};
 ghost use Rattle.vme_reading.specs.Streams.{streams, ReadNothing, WroteNothing};
 ghost use Rattle.vme_reading.specs.Outcomes.{LentAsking};
 ghost use Rattle.vme_check.specs.Checking.{ChecksInput, Finds, finding_line, finding_status};
-ghost use Rattle.vme_reading.specs.Refusals.{first_refusal};
+ghost use Rattle.vme_reading.specs.Refusals.{first_refusal, refusal_of};
 ghost use Rattle.vme_check.specs.Unrefused.{first_refused_of, AreAccepted};
 ghost use Rattle.vme_reading.specs.Readings.{ReadsInput, ReadsLent};
+ghost use Rattle.vme_reading.specs.Unread.{stops_unread};
 
 use crate::findings::write_finding;
 use std::alloc::Global;
@@ -145,11 +147,12 @@ impl Judge for Checking {
 
     ghost leaves = { λ _ p trace s answer. Finds p trace s answer };
 
+    ghost unbegun = { λ task can p trace s f kept h.
+        stops_unread (λ version es. refusal_of p version es ≡ None) refl trace s f h };
+
     fn begin(_task: &(), bus: Bus) -> Checking {
         Checking { bus, judged: 0 }
     }
-
-    fn unbegun(_task: &()) {}
 
     /// Judges the edges, up to the first that is refused. At the end of a trace without one, all
     /// are legal.

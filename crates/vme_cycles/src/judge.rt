@@ -1,14 +1,18 @@
 //! Reading a trace, and writing what its transactions are.
 ghost use Rattle.std.specs.Prelude.{◌≡◌, ◌++◌, IfErr, IfOk, OnErr, OnOk, Some};
+ghost use Rattle.std.proofs.Common.{inl};
 ghost use Rattle.std.specs.Io.KnownBytes.{Appends};
 ghost use Rattle.vme_model.specs.Numbered.{numbered};
 ghost use Rattle.vme_trace.specs.Writing.{AppendsFront};
-ghost use Rattle.vme_reading.specs.Streams.{ReadNothing, WroteNothing, streams};
+ghost use Rattle.vme_reading.specs.Streams.{ReadNothing, Wrote, WroteNothing, streams};
 ghost use Rattle.vme_reading.specs.Outcomes.{LentAsking, bench, refused_count, status_with};
 ghost use Rattle.vme_reading.specs.Steps.{traced};
 ghost use Rattle.vme_cycles.specs.Transactions.{cycle_begun, open_cycle_line, open_lines, open_tenure_line, tenure_begun};
-ghost use Rattle.vme_cycles.specs.Outcomes.{Reports, ReportsInput, last_lines, lines_by};
+ghost use Rattle.vme_cycles.specs.Outcomes.{Reports, ReportsInput, edge_lines, last_lines, lines_by};
 ghost use Rattle.vme_cycles.specs.Kept.{IsTracked, OfTracked};
+ghost use Rattle.vme_reading.specs.Unread.{stops_unread};
+ghost use Rattle.vme_reading.proofs.WrittenLines.{appends_behind};
+ghost use Rattle.std.proofs.KnownBytes.{Appends-nil};
 
 use crate::lines::{Line, totals_line};
 use crate::tracking::Tracking;
@@ -138,11 +142,13 @@ impl Judge for Tracking {
 
     ghost leaves = { λ _ p trace s answer. Reports p trace s (traced answer) };
 
+    ghost unbegun = { λ task can p trace s f kept h.
+        inl (stops_unread (λ version es. Wrote s (edge_lines p version es))
+        (appends_behind s.old s.new s.new [] kept (Appends-nil s.new)) trace s f h) };
+
     fn begin(_task: &(), bus: Bus) -> Tracking {
         Tracking::new(bus)
     }
-
-    fn unbegun(_task: &()) {}
 
     /// Writes the lines at the edges. At the end of the trace it writes what is under way and the
     /// last line.

@@ -20,17 +20,15 @@ use Rattle.vme_following.specs.declared.following.Printed.{Printed}
 use Rattle.vme_following.specs.declared.following.Printed.TheVariants.{Block, Beyond}
 use Rattle.vme_reading.specs.declared.EngineFault.{EngineFault}
 use Rattle.vme_reading.specs.declared.EngineFault.TheVariants as fault
-use Rattle.vme_reading.specs.Streams.{Streams, streams, WroteNothing}
+use Rattle.vme_reading.specs.Streams.{Streams, streams}
 use Rattle.vme_reading.specs.Outcomes.{Answer, LentAsking, bench}
 use Rattle.vme_following.specs.Stating.{IsReached, IsAhead, IsStated, States}
 use Rattle.vme_reading.specs.Steps.{Begins}
 use Rattle.vme_reading.specs.Pieces.{Came}
-use Rattle.vme_reading.specs.Begun.{IsUnread}
-use Rattle.vme_reading.specs.Waiting.{StopsWaiting}
 use Rattle.vme_reading.specs.Readings.{LeavesNow, ReadsLent}
 use Rattle.vme_following.specs.Followed.{IsAfter, IsBehind, IsNotBefore, OfAfter, Reaches, printed_answer, printed_behind, printed_status}
 use Rattle.vme_reading.proofs.ReadOn.{came_begins}
-use Rattle.vme_reading.proofs.Waits.{stops_unread, waits_now}
+use Rattle.vme_reading.proofs.Waits.{waits_now}
 use Rattle.vme_reading.proofs.WrittenLines.{appends_behind, front_after}
 
 -- of a command that prints a block
@@ -151,12 +149,3 @@ module _ (p : Plan) (v : Version) (before es : List Edge) (more : Result Bool Fa
 pub not_before_first : (after : Option ℕ) → IsNotBefore after []
 not_before_first (Some n) = omega arith
 not_before_first None = tt
-
--- ---- without a header line
-
-waiting_place : (after : Option ℕ) → IsAhead after None []
-waiting_place (Some n) = tt
-waiting_place None = tt
-
-pub states_unbegun : (after : Option ℕ) (p : Plan) (trace : List ℕ) (s : Streams) (f : Fault) → WroteNothing s → StopsWaiting IsUnread trace (streams s.from s.to None None) f → States after p trace s (Err (fault.Trace f))
-states_unbegun after p trace s f kept_so h = inl (stops_unread (IsAhead after) (waiting_place after) trace s f h, kept_so)

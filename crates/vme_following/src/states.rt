@@ -1,12 +1,14 @@
 //! Telling where the bus stands after a trace, or after a prefix of it.
-ghost use Rattle.std.specs.Prelude.{◌≡◌, OnOk, OnErr, IfOk, IfErr};
+ghost use Rattle.std.specs.Prelude.{◌≡◌, Some, None, OnOk, OnErr, IfOk, IfErr};
+ghost use Rattle.std.proofs.Common.{inl};
 ghost use Rattle.std.specs.Io.KnownBytes.{Appends, Keeps};
 ghost use Rattle.vme_model.specs.Stands.{stands_text};
 ghost use Rattle.vme_trace.specs.Writing.{AppendsFront};
 ghost use Rattle.vme_reading.specs.Streams.{streams, ReadNothing, WroteNothing};
 ghost use Rattle.vme_reading.specs.Outcomes.{LentAsking};
-ghost use Rattle.vme_following.specs.Stating.{States, StatesInput};
+ghost use Rattle.vme_following.specs.Stating.{IsAhead, States, StatesInput};
 ghost use Rattle.vme_following.specs.Followed.{IsAfter, IsNotBefore, OfAfter, printed_answer, printed_behind};
+ghost use Rattle.vme_reading.specs.Unread.{stops_unread};
 
 use crate::following::{Following, Printed, status_of};
 use std::alloc::Global;
@@ -55,6 +57,12 @@ impl Judge for Stating {
 
     ghost leaves = { λ after p trace s answer. States after p trace s (printed_answer answer) };
 
+    ghost unbegun = { λ after can p trace s f kept h.
+        inl (
+          stops_unread (IsAhead after) (elim after [ Some n ↦ tt | None ↦ tt ]) trace s f h,
+          kept,
+        ) };
+
     fn begin(task: &Option<u64>, bus: Bus) -> Stating {
         let following = Following::new(bus);
         Stating {
@@ -62,8 +70,6 @@ impl Judge for Stating {
             after: *task,
         }
     }
-
-    fn unbegun(_task: &Option<u64>) {}
 
     /// Prints where the bus stands once the place that is asked for is reached.
     fn take<W: Write>(

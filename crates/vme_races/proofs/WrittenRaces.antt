@@ -1,7 +1,7 @@
 -- What is written of a trace.
-use Rattle.std.proofs.Common.{◌≡◌, inl, inr, ◌-◌, ◌++◌, [], ℕ, Bool, false, List, Option, Some, None, Result, Ok, Err, length, refl, sym, ◌∙◌, ap, append_assoc, subst, arith}
+use Rattle.std.proofs.Common.{◌≡◌, inl, inr, ◌-◌, ◌++◌, [], ℕ, Bool, false, List, Option, Some, Result, Ok, Err, length, refl, sym, ◌∙◌, ap, append_assoc, subst, arith}
 use Rattle.std.specs.Io.KnownBytes.{Appends, Keeps}
-use Rattle.std.proofs.KnownBytes.{Appends-trans, Appends-nil, Appends-kept}
+use Rattle.std.proofs.KnownBytes.{Appends-trans, Appends-kept}
 use Rattle.std.proofs.lemmas.List.{length-map}
 use Rattle.vme_model.specs.declared.signals.Edge.{Edge}
 use Rattle.vme_model.specs.declared.signals.Version.{Version}
@@ -14,17 +14,16 @@ use Rattle.vme_trace.specs.declared.Fault.TheVariants.{Write}
 use Rattle.vme_trace.specs.Writing.{AppendsFront}
 use Rattle.vme_reading.specs.declared.Status.{Status}
 use Rattle.vme_reading.specs.declared.EngineFault.TheVariants as fault
-use Rattle.vme_reading.specs.Streams.{Streams, Wrote, WroteNothing, streams}
+use Rattle.vme_reading.specs.Streams.{Streams, Wrote, streams}
 use Rattle.vme_reading.specs.Outcomes.{bench, refused_count, status_of, status_with}
-use Rattle.vme_reading.specs.Begun.{IsUnread}
 use Rattle.vme_reading.specs.Pieces.{Came}
 use Rattle.vme_reading.specs.Readings.{LeavesNow}
 use Rattle.vme_reading.specs.Steps.{traced}
 use Rattle.vme_reading.specs.Waiting.{StopsWaiting}
 use Rattle.vme_following.proofs.FollowedEdges.{edges_on}
 use Rattle.vme_reading.proofs.ReadOn.{came_begins}
-use Rattle.vme_reading.proofs.Waits.{stops_unread, waits_now}
-use Rattle.vme_reading.proofs.WrittenLines.{appends_behind, front_behind, front_kept, front_of_all}
+use Rattle.vme_reading.proofs.Waits.{waits_now}
+use Rattle.vme_reading.proofs.WrittenLines.{front_behind, front_kept, front_of_all}
 use Rattle.vme_races.specs.declared.judge.Reporting.{Reporting}
 use Rattle.vme_races.specs.declared.racing.Racing.{Racing}
 use Rattle.vme_races.specs.declared.walks.Walk.{Walk}
@@ -118,12 +117,6 @@ module _ (p : Plan) (v : Version) (es : List Edge) (more : Result Bool Fault) (o
   end_cut_now f is write cut = λ trace from to came.
       let end = at_end trace from to is came in
       inr (write, inr (cut.0, text_is (read_of trace) cut.0 end.0.version end.1 cut.1, cut.2))
-
--- ---- without a header line
-
-pub unbegun : (p : Plan) (trace : List ℕ) (s : Streams) (f : Fault) → WroteNothing s → StopsWaiting IsUnread trace (streams s.from s.to None None) f → Reports p trace s (Err (fault.Trace f))
-unbegun p trace s f keeps h =
-    inl (stops_unread (Waits p s) ([], refl, appends_behind s.old s.new s.new [] keeps (Appends-nil s.new)) trace s f h)
 
 -- ---- the last line
 

@@ -1,5 +1,6 @@
 //! Reading a trace, and writing which of its edges race.
-ghost use Rattle.std.specs.Prelude.{◌≡◌, ◌+◌, ◌<◌, ◌^◌, ◌++◌, IfErr, IfOk, IfSome, IsTrue, List, OnErr, OnOk, Option, Some, length, ℕ};
+ghost use Rattle.std.specs.Prelude.{◌≡◌, ◌+◌, ◌<◌, ◌^◌, ◌++◌, IfErr, IfOk, IfSome, IsTrue, List, [], OnErr, OnOk, Option, Some, length, ℕ};
+ghost use Rattle.std.proofs.Common.{inl, refl};
 ghost use Rattle.std.specs.Io.KnownBytes.{Appends};
 ghost use Rattle.vme_model.specs.declared.signals.Edge.{Edge as EdgeValue};
 ghost use Rattle.vme_model.specs.declared.signals.Version.{Version as VersionValue};
@@ -7,12 +8,15 @@ ghost use Rattle.vme_model.specs.Locality.{AreWellFormed};
 ghost use Rattle.vme_model.specs.Plan.{Plan as PlanValue};
 ghost use Rattle.vme_model.specs.Signals.{is_well_formed};
 ghost use Rattle.vme_trace.specs.Writing.{AppendsFront};
-ghost use Rattle.vme_reading.specs.Streams.{ReadNothing, WroteNothing, streams};
+ghost use Rattle.vme_reading.specs.Streams.{ReadNothing, Wrote, WroteNothing, streams};
 ghost use Rattle.vme_reading.specs.Outcomes.{LentAsking, refused_count, status_with};
 ghost use Rattle.vme_reading.specs.Steps.{traced};
 ghost use Rattle.vme_races.specs.Kept.{Breaks, Ends, EndsCut, Stands, taken_line};
 ghost use Rattle.vme_swaps.specs.Stops.{is_formed};
-ghost use Rattle.vme_races.specs.Outcomes.{Reports, ReportsInput};
+ghost use Rattle.vme_races.specs.Outcomes.{AreLines, Reports, ReportsInput};
+ghost use Rattle.vme_reading.specs.Unread.{stops_unread};
+ghost use Rattle.vme_reading.proofs.WrittenLines.{appends_behind};
+ghost use Rattle.std.proofs.KnownBytes.{Appends-nil};
 
 use crate::lines::{last_line, race_line};
 use crate::racing::Racing;
@@ -112,14 +116,17 @@ impl Judge for Reporting {
 
     ghost leaves = { λ _ p trace s answer. Reports p trace s (traced answer) };
 
+    ghost unbegun = { λ task can p trace s f kept h.
+        inl (stops_unread
+        (λ version es. (bytes : List ℕ) × AreLines p version es bytes × Wrote s bytes)
+        ([], refl, appends_behind s.old s.new s.new [] kept (Appends-nil s.new)) trace s f h) };
+
     fn begin(task: &Global, bus: Bus) -> Reporting {
         Reporting {
             racing: Racing::new(*task, bus),
             judged: 0,
         }
     }
-
-    fn unbegun(_task: &Global) {}
 
     /// Writes the lines of the edges, and at the end of the trace the last line.
     fn take<W: Write>(

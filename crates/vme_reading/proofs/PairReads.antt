@@ -20,7 +20,8 @@ use Rattle.vme_reading.proofs.TraceReads.{IsReading, reading_of, begins_more, ca
 use Rattle.vme_reading.proofs.ReadOn.{came_is, came_begins}
 use Rattle.vme_reading.proofs.FirstReads.{counted_first}
 use Rattle.vme_reading.proofs.FormedEdges.{formed_both, formed_first}
-use Rattle.vme_reading.proofs.Waits.{stops_unread, waits_now}
+use Rattle.vme_reading.proofs.Waits.{waits_now}
+use Rattle.vme_reading.specs.Unread.{stops_unread}
 
 -- ---- a piece
 

@@ -17,7 +17,6 @@ use Rattle.vme_model.specs.Text.{read_of}
 use Rattle.vme_model.specs.Verdict.{Judgement, kept, verdict}
 use Rattle.vme_trace.specs.declared.Fault.{Fault}
 use Rattle.vme_reading.specs.declared.seeking.Found.TheVariants.{At}
-use Rattle.vme_reading.specs.Begun.{IsUnread}
 use Rattle.vme_reading.specs.Outcomes.{bench}
 use Rattle.vme_reading.specs.Pieces.{Came}
 use Rattle.vme_reading.specs.Readings.{LeavesNow}
@@ -25,12 +24,11 @@ use Rattle.vme_reading.specs.Refusals.{first_refusal, or_refusal, refusal_of}
 use Rattle.vme_reading.specs.Seeking.{IsAsked, IsUnasked, OfAsked, SeeksEdge, Writing}
 use Rattle.vme_reading.specs.Sought.{ComesTo, HasPassed, IsNext, Meets, Seeks, Standing, ended}
 use Rattle.vme_reading.specs.Steps.{Begins}
-use Rattle.vme_reading.specs.Streams.{Streams, streams, WroteNothing}
-use Rattle.vme_reading.specs.Waiting.{StopsWaiting}
+use Rattle.vme_reading.specs.Streams.{streams}
 use Rattle.vme_reading.proofs.FormedEdges.{formed_both}
 use Rattle.vme_reading.proofs.ReadOn.{came_begins}
 use Rattle.vme_reading.proofs.FirstRefusals.{refusal_behind, refused_by, first_behind}
-use Rattle.vme_reading.proofs.Waits.{stops_unread, waits_now}
+use Rattle.vme_reading.proofs.Waits.{waits_now}
 
 -- ---- one edge
 
@@ -290,14 +288,3 @@ pub passed_none : {S : Type 0} (Stands : Standing S) (asked : Option ℕ) (p : P
     (at : S) → Stands p v [] at → HasPassed Stands asked p v [] 0 at
 passed_none Stands asked p v at stands =
     record { stands = stands; count = refl; unasked = unasked_first asked p v }
-
-waiting : (asked : Option ℕ) (p : Plan) → IsUnasked asked p None []
-waiting (Some n) p = λ some. some
-waiting None p = refl
-
-pub seeks_unbegun : {A : Type 0} (Writes : Writing A) (Fails : Fault → Type 0) (asked : Option ℕ)
-    (p : Plan) (trace : List ℕ) (s : Streams) (f : Fault) → WroteNothing s
-    → StopsWaiting IsUnread trace (streams s.from s.to None None) f
-    → SeeksEdge Writes Fails asked p trace s (Err f)
-seeks_unbegun Writes Fails asked p trace s f kept_so h =
-    inl (stops_unread (IsUnasked asked p) (waiting asked p) trace s f h, kept_so)

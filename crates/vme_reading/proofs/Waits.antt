@@ -1,14 +1,13 @@
 -- A fault of a trace that comes before an engine has what it waits for.
-use Rattle.std.proofs.Common.{◌≡◌, List, [], ℕ, Bool, Option, Some, None, Result, Err, sym, subst}
+use Rattle.std.proofs.Common.{◌≡◌, List, ℕ, Bool, Option, Some, Result, Err, sym, subst}
 use Rattle.vme_model.specs.declared.signals.Version.{Version}
 use Rattle.vme_model.specs.declared.signals.Edge.{Edge}
 use Rattle.vme_model.specs.Text.{Reading, read_of}
 use Rattle.vme_trace.specs.declared.Fault.{Fault}
 use Rattle.vme_trace.specs.declared.Fault.TheVariants.{Header, Line, TooLong, CutOff, Read, Memory, Failed, Write}
-use Rattle.vme_reading.specs.Streams.{Streams, streams}
+use Rattle.vme_reading.specs.Streams.{Streams}
 use Rattle.vme_reading.specs.Steps.{Begins}
 use Rattle.vme_reading.specs.Pieces.{Came, Stopped}
-use Rattle.vme_reading.specs.Begun.{IsUnread}
 use Rattle.vme_reading.specs.Waiting.{StopsWaiting}
 
 -- ---- behind the header line
@@ -31,19 +30,3 @@ module _ (Waits : Option Version → List Edge → Type 0) (v : Version) (all : 
 pub waits_now : (Waits : Option Version → List Edge → Type 0) (v : Version) (all : List ℕ) (s : Streams) (es : List Edge) (more : Result Bool Fault) → Came v all s.from s.to es more → Waits (Some v) es → (f : Fault) → more ≡ Err f → StopsWaiting Waits all s f
 waits_now Waits v all s es more came waits f is =
     let end : Came v all s.from s.to es (Err f) = subst (Came v all s.from s.to es) is came in stops_waiting Waits v all s es end.0 waits f end.1
-
--- ---- before it, where an engine still waits if it waits before the first edge
-module _ (Waits : Option Version → List Edge → Type 0) (waits : Waits None []) where
-  waits_unread : (w : Option Version) (es : List Edge) → IsUnread w es → Waits w es
-  waits_unread w es h = subst (λ (v : Option Version). Waits v es) (sym h.0) (subst (Waits None) (sym h.1) waits)
-
-  module _ (all : List ℕ) (s : Streams) where
-    pub stops_unread : (f : Fault) → StopsWaiting IsUnread all (streams s.from s.to None None) f → StopsWaiting Waits all s f
-    stops_unread Header h = (h.0, waits_unread (read_of all).version (read_of all).edges h.1)
-    stops_unread (Line n) h = (h.0, waits_unread (read_of all).version (read_of all).edges h.1)
-    stops_unread (TooLong n) h = (h.0, waits_unread (read_of all).version (read_of all).edges h.1)
-    stops_unread CutOff h = (h.0, waits_unread (read_of all).version (read_of all).edges h.1)
-    stops_unread Read h = (h.0, h.1, h.2, waits_unread (read_of h.0).version (read_of h.0).edges h.3)
-    stops_unread Memory h = (h.0, h.1, h.2, waits_unread (read_of all).version h.0 h.3)
-    stops_unread Failed h = absurd h
-    stops_unread Write h = absurd h

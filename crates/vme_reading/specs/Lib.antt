@@ -24,6 +24,8 @@ pub mod Pieces
 pub mod Readings
 -- words: a trace that stands alone, up to its header line
 pub mod Begun
+-- lemmas, which laws of `Judge` cite: a trace without a header line
+pub mod Unread
 -- words: two traces that are read side by side, as far as they were read
 pub mod Sides
 -- words: a text that is put together before it is written

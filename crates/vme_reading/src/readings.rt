@@ -53,13 +53,6 @@ pub trait Judge: Drop {
         ensures stands { (p : PlanValue) (v : VersionValue) (old : Option (List ℕ))
             → bus ≡ bench p v → stands task.now p v [] old old result };
 
-    /// Does nothing. Its contract says what is left of a trace without a header line.
-    fn unbegun(task: &Self::Task)
-        requires can { can task.now }
-        ensures { (p : PlanValue) (trace : List ℕ) (s : Streams) (f : FaultValue) → WroteNothing s
-            → StopsWaiting IsUnread trace (streams s.from s.to None None) f
-            → leaves task.now p trace s (Err f) };
-
     /// Takes the edges of a piece. None if it has no answer yet, and the trace goes on.
     ///
     /// `more` is what the read of the piece answered. If whoever writes the trace has `paused`
@@ -78,6 +71,12 @@ pub trait Judge: Drop {
             (old : Option (List ℕ)) → stands task p v es old (W.contents out.old) self.old
             → Takes (stands task p v) (leaves task p) v (es ++ edges.now) more
             old (W.contents out.new) self.new result };
+
+    /// A law: what is left of a trace without a header line.
+    ghost unbegun: { (task : Self.Task) → can task → (p : PlanValue) (trace : List ℕ) (s : Streams)
+        (f : FaultValue) → WroteNothing s
+        → StopsWaiting IsUnread trace (streams s.from s.to None None) f
+        → leaves task p trace s (Err f) };
 }
 
 /// Has a judge take the edges of a trace whose first piece was read, with at most so many further
@@ -142,7 +141,6 @@ fn read_trace<J: Judge, R: Read, W: Write>(
         (W.contents out.old) (W.contents out.new)) result }
 {
     let mut input = Input::new(alloc);
-    J::unbegun(task);
     let version = input.begin(buffer, trace)?;
     let mut judge = J::begin(task, Bus::new(plan, version));
     input.read_on(&mut judge, buffer, trace, out)

@@ -11,6 +11,7 @@ ghost use Rattle.vme_reading.specs.Streams.{streams, ReadNothing, WroteNothing};
 ghost use Rattle.vme_reading.specs.Outcomes.{bench};
 ghost use Rattle.vme_reading.specs.Readings.{ReadsInput, ReadsLent};
 ghost use Rattle.vme_reading.specs.Seeking.{SeeksEdge};
+ghost use Rattle.vme_reading.specs.Unread.{seeks_unread};
 ghost use Rattle.vme_reading.specs.Sought.{HasPassed, Meets, Seeks, ended};
 
 use crate::EngineFault;
@@ -178,6 +179,9 @@ impl<S: AtEdge> Judge for Seeking<S> {
     ghost leaves = { λ asked p trace s answer.
         SeeksEdge (S.writes p) S.fails asked.edge p trace s answer };
 
+    ghost unbegun = { λ asked can p trace s f kept h.
+        seeks_unread (S.writes p) S.fails asked.edge p trace s f kept h };
+
     fn begin(task: &Asked<S::Task>, bus: Bus) -> Seeking<S> {
         Seeking {
             at: S::begin(&task.task, bus),
@@ -185,8 +189,6 @@ impl<S: AtEdge> Judge for Seeking<S> {
             judged: 0,
         }
     }
-
-    fn unbegun(_task: &Asked<S::Task>) {}
 
     /// Has the command write at the edge that is asked for, once it comes.
     fn take<W: Write>(

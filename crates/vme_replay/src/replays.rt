@@ -4,6 +4,7 @@ ghost use Rattle.vme_model.specs.Locality.{AreWellFormed};
 ghost use Rattle.vme_reading.specs.Streams.{streams, ReadNothing, WroteNothing};
 ghost use Rattle.vme_reading.specs.Outcomes.{LentAsking, Replays, ReplaysInput, bench};
 ghost use Rattle.vme_reading.specs.Steps.{TakesPiece, traced};
+ghost use Rattle.vme_reading.proofs.FirstReads.{replay_unbegun};
 
 use crate::forms::write_form;
 use crate::lines::close;
@@ -81,6 +82,8 @@ impl Judge for Replaying {
 
     ghost leaves = { λ form p trace s answer. Replays form p [] trace s (traced answer) };
 
+    ghost unbegun = { λ form can. replay_unbegun form };
+
     fn begin(task: &LineForm, bus: Bus) -> Replaying {
         Replaying {
             form: *task,
@@ -89,8 +92,6 @@ impl Judge for Replaying {
             text: Text::new(),
         }
     }
-
-    fn unbegun(_task: &LineForm) {}
 
     fn take<W: Write>(
         &mut self,

@@ -1,8 +1,8 @@
 -- What is shown of the whole trace.
-use Rattle.std.proofs.Common.{◌≡◌, ◌⊎◌, inl, inr, ℕ, ◌-◌, ◌<◌, ◌≤◌, List, [], length, take, drop, Bool, false, Option, Some, None, Result, Ok, Err, sym, ◌∙◌, ap, subst, arith}
+use Rattle.std.proofs.Common.{◌≡◌, ◌⊎◌, inl, inr, ℕ, ◌-◌, ◌<◌, ◌≤◌, List, length, take, drop, Bool, false, Option, Some, None, Result, Ok, Err, sym, ◌∙◌, ap, subst, arith}
 use Rattle.std.proofs.lemmas.List.{length-append, take-append-le}
 use Rattle.std.specs.Io.KnownBytes.{Appends, Keeps}
-use Rattle.std.proofs.KnownBytes.{Appends-nil, Keeps-trans}
+use Rattle.std.proofs.KnownBytes.{Keeps-trans}
 use Rattle.vme_model.specs.declared.signals.Version.{Version}
 use Rattle.vme_model.specs.declared.signals.Edge.{Edge}
 use Rattle.vme_model.specs.Plan.{Plan}
@@ -16,21 +16,18 @@ use Rattle.vme_reading.specs.declared.EngineFault.TheVariants as fault
 use Rattle.vme_following.specs.declared.following.Printed.{Printed}
 use Rattle.vme_following.specs.declared.following.Printed.TheVariants.{Block, Beyond}
 use Rattle.vme_show.specs.declared.shows.Stretch.{Stretch}
-use Rattle.vme_reading.specs.Streams.{Streams, streams, Wrote, WroteNothing}
+use Rattle.vme_reading.specs.Streams.{Streams, streams}
 use Rattle.vme_reading.specs.Outcomes.{bench, refused_count, status_with}
 use Rattle.vme_reading.specs.Pieces.{Came, answered}
 use Rattle.vme_reading.specs.Steps.{Begins}
-use Rattle.vme_reading.specs.Begun.{IsUnread}
-use Rattle.vme_reading.specs.Waiting.{StopsWaiting}
 use Rattle.vme_reading.specs.Readings.{Takes}
 use Rattle.vme_show.specs.Stretches.{Stage, IsStretch}
 use Rattle.vme_show.specs.Showing.{IsShownOut, Shows, StopsShowing, shown_text}
 use Rattle.vme_show.specs.Shown.{Ends, IsEnd, IsShown, status_to, stretch_text}
 use Rattle.vme_following.specs.Followed.{printed_answer}
 use Rattle.vme_reading.proofs.ReadOn.{came_begins}
-use Rattle.vme_reading.proofs.Waits.{stops_unread, stops_waiting}
+use Rattle.vme_reading.proofs.Waits.{stops_waiting}
 use Rattle.vme_show.proofs.ShownPieces.{ends_behind}
-use Rattle.vme_reading.proofs.WrittenLines.{appends_behind}
 
 module _ (p : Plan) (v : Version) (all : List ℕ) (s : Streams) (es : List Edge) (begins : Begins (read_of all) v es) (r : Stretch) (is : IsStretch r) where
   -- the edges that came are the first of the trace
@@ -100,8 +97,3 @@ shows_takes p v r es more old at new now (Ok (Some printed)) is keeps same h = �
     shows_so p v trace (streams from to old new) es (came_begins v trace from to es more came) r is more now (Ok printed) came (ends_behind r (bench p v) es more old at new now (Ok (Some printed)) keeps h)
 shows_takes p v r es more old at new now (Err f) is keeps same h = λ trace from to came.
     shows_so p v trace (streams from to old new) es (came_begins v trace from to es more came) r is more now (Err f) came (ends_behind r (bench p v) es more old at new now (Err f) keeps h)
-
-pub shows_unbegun : (r : Stretch) → IsStretch r → (p : Plan) (trace : List ℕ) (s : Streams) (f : Fault) → WroteNothing s → StopsWaiting IsUnread trace (streams s.from s.to None None) f → Shows r.from r.to r.color p trace s (Err (fault.Trace f))
-shows_unbegun r is p trace s f kept h =
-    inl
-    (stops_unread (λ w l. (length l < r.to) × Wrote s (shown_text r.color r.from r.to p w l)) ((let some = is.some in let order = is.order in omega (arith, some, order)), appends_behind s.old s.new s.new [] kept (Appends-nil s.new)) trace s f h)

@@ -1,16 +1,21 @@
 //! Showing a stretch of a trace as a picture.
 ghost use Rattle.std.specs.Prelude.{◌≡◌, ◌+◌, ◌-◌, ◌<◌, ◌≤◌, ◌++◌, ◌∷◌, [], List, length, min, IfErr, OnOk, OnErr};
+ghost use Rattle.std.proofs.Common.{inl};
 ghost use Rattle.std.specs.Io.KnownBytes.{Appends, Keeps};
 ghost use Rattle.vme_model.specs.declared.signals.Edge.{Edge as EdgeValue};
 ghost use Rattle.vme_model.specs.Verdict.{State};
 ghost use Rattle.vme_trace.specs.Writing.{AppendsFront};
-ghost use Rattle.vme_reading.specs.Streams.{streams, ReadNothing, WroteNothing};
+ghost use Rattle.vme_reading.specs.Streams.{streams, ReadNothing, Wrote, WroteNothing};
 ghost use Rattle.vme_reading.specs.Outcomes.{LentAsking, bench};
 ghost use Rattle.vme_reading.specs.Readings.{GoesOn};
-ghost use Rattle.vme_show.specs.Showing.{Shows, ShowsInput};
+ghost use Rattle.vme_show.specs.Showing.{Shows, ShowsInput, shown_text};
 ghost use Rattle.vme_show.specs.Stretches.{IsStretch};
 ghost use Rattle.vme_show.specs.Shown.{Ends, EndsStretch, IsBefore, IsFresh, IsShown, status_to, stretch_text};
 ghost use Rattle.vme_following.specs.Followed.{printed_answer};
+ghost use Rattle.vme_reading.specs.Unread.{stops_unread};
+ghost use Rattle.vme_reading.proofs.WrittenLines.{appends_behind};
+ghost use Rattle.std.proofs.KnownBytes.{Appends-nil};
+ghost use Rattle.std.proofs.Math.Nat.{le_trans};
 
 use crate::windows::Window;
 use std::alloc::Global;
@@ -229,11 +234,16 @@ impl Judge for Showing {
     ghost leaves = { λ stretch p trace s answer.
         Shows stretch.from stretch.to stretch.color p trace s (printed_answer answer) };
 
+    ghost unbegun = { λ stretch is p trace s f kept h.
+        inl (stops_unread (λ version es. (length es < stretch.to)
+        × Wrote s (shown_text stretch.color stretch.from stretch.to p version es)) (
+          le_trans is.some is.order,
+          appends_behind s.old s.new s.new [] kept (Appends-nil s.new),
+        ) trace s f h) };
+
     fn begin(task: &Stretch, bus: Bus) -> Showing {
         Showing::new(bus, *task)
     }
-
-    fn unbegun(_task: &Stretch) {}
 
     fn take<W: Write>(
         &mut self,

@@ -1,5 +1,5 @@
 -- What the edges of a trace come to, piece by piece.
-use Rattle.std.proofs.Common.{◌≡◌, inl, inr, ℕ, ◌+◌, ◌-◌, ◌<◌, ◌^◌, List, [], ◌∷◌, ◌++◌, length, Bool, true, false, Option, Some, None, Result, Ok, Err, is_ok, refl, sym, ◌∙◌, ap, subst, arith}
+use Rattle.std.proofs.Common.{◌≡◌, inr, ℕ, ◌+◌, ◌-◌, ◌<◌, ◌^◌, List, [], ◌∷◌, ◌++◌, length, Bool, true, false, Option, Some, Result, Ok, Err, is_ok, refl, sym, ◌∙◌, ap, subst, arith}
 use Rattle.std.specs.Prelude.{if◌then◌else◌}
 use Rattle.vme_model.specs.declared.signals.Version.{Version}
 use Rattle.vme_model.specs.declared.signals.Edge.{Edge}
@@ -22,21 +22,18 @@ use Rattle.vme_summary.proofs.Words.{each_once}
 use Rattle.vme_reading.specs.declared.Status.{Status}
 use Rattle.vme_reading.specs.declared.EngineFault.TheVariants as fault
 use Rattle.vme_summary.specs.declared.summing.Summing.{Summing}
-use Rattle.vme_reading.specs.Streams.{Streams, streams, Wrote, WroteFront, WroteNothing}
+use Rattle.vme_reading.specs.Streams.{Streams, streams, Wrote, WroteFront}
 use Rattle.vme_reading.specs.Outcomes.{bench, refused_count, status_with}
 use Rattle.vme_reading.specs.Pieces.{Came}
-use Rattle.vme_reading.specs.Begun.{IsUnread}
-use Rattle.vme_reading.specs.Waiting.{StopsWaiting}
 use Rattle.vme_following.specs.Followed.{IsAfter}
-use Rattle.vme_summary.specs.Summing.{IsSummedUp, IsWaiting, Sums}
-use Rattle.vme_summary.specs.TraceSums.{IsSumOf, Tallies, sum_text}
+use Rattle.vme_summary.specs.Summing.{IsSummedUp, Sums}
+use Rattle.vme_summary.specs.TraceSums.{IsSumOf, sum_text}
 use Rattle.vme_following.proofs.FollowedEdges.{kept_plan, edges_on, ok_with}
 use Rattle.std.specs.Io.KnownBytes.{Appends, Keeps}
 use Rattle.vme_trace.specs.Writing.{AppendsFront}
 use Rattle.vme_reading.specs.Steps.{traced}
 use Rattle.vme_reading.specs.Readings.{LeavesNow}
 use Rattle.vme_reading.proofs.WrittenLines.{appends_behind, front_after}
-use Rattle.vme_reading.proofs.Waits.{stops_unread}
 
 -- ---- lists of edges
 
@@ -118,9 +115,3 @@ module _ (p : Plan) (v : Version) (es : List Edge) (more : Result Bool Fault) (o
   pub sums_cut_now : (f : Fault) → more ≡ Ok false → f ≡ Write → AppendsFront mid new (sum_text p v es) → LeavesNow (λ trace s a. Sums p trace s (traced a)) v es more old new (Err f)
   sums_cut_now f is write wrote = λ trace from to came.
       sums_cut p v trace (streams from to old new) es (at_end trace from to is came) f write (front_after old mid new (sum_text p v es) kept_so wrote)
-
-pub sums_unbegun : (task : Unit {0}) (p : Plan) (trace : List ℕ) (s : Streams) (f : Fault) → WroteNothing s → StopsWaiting IsUnread trace (streams s.from s.to None None) f → Sums p trace s (Err (fault.Trace f))
-sums_unbegun task p trace s f kept_so h = inl (stops_unread IsWaiting tt trace s f h, kept_so)
-
-pub tallies_unbegun : (task : Unit {0}) (p : Plan) (trace : List ℕ) (s : Streams) (f : Fault) → WroteNothing s → StopsWaiting IsUnread trace (streams s.from s.to None None) f → Tallies p trace s (Err f)
-tallies_unbegun task p trace s f kept_so h = stops_unread IsWaiting tt trace s f h

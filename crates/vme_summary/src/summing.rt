@@ -1,5 +1,6 @@
 //! Summing a trace up: what it exercised, and what each board did.
 ghost use Rattle.std.specs.Prelude.{◌≡◌, ◌+◌, ◌<◌, ◌^◌, ◌++◌, ◌∷◌, [], length, IsTrue, OnOk, OnErr, IfOk, IfErr};
+ghost use Rattle.std.proofs.Common.{inl};
 ghost use Rattle.std.specs.Io.KnownBytes.{Appends, Keeps};
 ghost use Rattle.vme_model.specs.Signals.{is_well_formed};
 ghost use Rattle.vme_model.specs.Locality.{AreWellFormed};
@@ -8,8 +9,9 @@ ghost use Rattle.vme_summary.specs.Tally.{answered, refused};
 ghost use Rattle.vme_reading.specs.Streams.{streams, ReadNothing, WroteNothing};
 ghost use Rattle.vme_reading.specs.Outcomes.{LentAsking, bench, status_with};
 ghost use Rattle.vme_reading.specs.Steps.{traced};
-ghost use Rattle.vme_summary.specs.Summing.{Sums, SumsInput};
+ghost use Rattle.vme_summary.specs.Summing.{IsWaiting, Sums, SumsInput};
 ghost use Rattle.vme_summary.specs.TraceSums.{IsSumOf, OfSum, sum_text};
+ghost use Rattle.vme_reading.specs.Unread.{stops_unread};
 
 use crate::summaries::write_summary;
 use crate::tallies::Tally;
@@ -87,13 +89,14 @@ impl Judge for Summing {
 
     ghost leaves = { λ _ p trace s answer. Sums p trace s (traced answer) };
 
+    ghost unbegun = { λ task can p trace s f kept h.
+        inl (stops_unread IsWaiting tt trace s f h, kept) };
+
     fn begin(_task: &(), bus: Bus) -> Summing {
         let following = Following::new(bus);
         let tally = Tally::new();
         Summing { following, tally }
     }
-
-    fn unbegun(_task: &()) {}
 
     /// Takes in the edges, and prints the summary at the end of the trace.
     fn take<W: Write>(

@@ -2,8 +2,10 @@
 ghost use Rattle.std.specs.Prelude.{◌≡◌, None, IfErr};
 ghost use Rattle.vme_reading.specs.Outcomes.{LentAsking};
 ghost use Rattle.vme_reading.specs.Streams.{streams, ReadNothing};
+ghost use Rattle.vme_summary.specs.Summing.{IsWaiting};
 ghost use Rattle.vme_summary.specs.TraceSums.{IsSumOf, Tallies};
 ghost use Rattle.vme_summary.specs.Totals.{AddsInput};
+ghost use Rattle.vme_reading.specs.Unread.{stops_unread};
 
 use crate::summing::Summing;
 use crate::sums::Sums;
@@ -36,13 +38,13 @@ impl Judge for Tallying {
 
     ghost leaves = { λ _ p trace s answer. Tallies p trace s answer };
 
+    ghost unbegun = { λ task can p trace s f kept h. stops_unread IsWaiting tt trace s f h };
+
     fn begin(task: &(), bus: Bus) -> Tallying {
         Tallying {
             summing: Summing::begin(task, bus),
         }
     }
-
-    fn unbegun(_task: &()) {}
 
     /// Takes in the edges, and gives what all came to at the end of the trace.
     fn take<W: Write>(

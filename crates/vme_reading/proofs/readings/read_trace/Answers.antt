@@ -10,7 +10,7 @@ returns-in_err-version g c =
     rw (e.1, e.2) (
       none.0,
       none.1,
-      c.unbegun.ensures _ none.0 (streams _ _ _ _) _ (Keeps-refl _) none.2,
+      g.met.J.Judge.unbegun c.args.task.now c.requires.can _ none.0 (streams _ _ _ _) _ (Keeps-refl _) none.2,
     )
 
 pub returns : goal.returns
