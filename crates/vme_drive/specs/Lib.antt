@@ -1,5 +1,5 @@
--- The definitions of the drives. `believe` marks what a theorem rests on, and `words` what only says
--- how one function serves another.
+-- The definitions of the drives. `believe` marks what a theorem rests on, and `words` what only
+-- says how one function serves another.
 
 -- believe, for `drive` alone: what the drivers make, and what is written of it
 pub mod Driving

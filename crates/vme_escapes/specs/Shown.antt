@@ -1,6 +1,6 @@
--- How a name and a fault are printed on one line. A control character is escaped as in a TOML string.
--- A backslash is escaped too, so that no name looks like an escape. Any other character is printed as
--- it is.
+-- How a name and a fault are printed on one line. A control character is escaped as in a TOML
+-- string. A backslash is escaped too, so that no name looks like an escape. Any other character is
+-- printed as it is.
 use Rattle.std.specs.Prelude.{ℕ, ◌+◌, ◌/◌, ◌%◌, ◌==◌, ◌||◌, nat_lt, if◌then◌else◌, List, [], ◌∷◌, ◌++◌, Option, Some, None, unwrap_or, codes, encode_utf8}
 use Rattle.std.specs.Char.{is_control}
 use Rattle.std.specs.List.{flat_map}

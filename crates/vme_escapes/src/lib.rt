@@ -1,5 +1,5 @@
-//! Texts on one line, whatever they hold: control characters and backslashes are escaped as in a TOML
-//! string.
+//! Texts on one line, whatever they hold: control characters and backslashes are escaped as in a
+//! TOML string.
 #![tactic(auto)]
 
 mod escapes;

@@ -1,5 +1,5 @@
--- The definitions of traces that are followed edge by edge. `believe` marks what a theorem rests on,
--- and `words` what only says how one function serves another.
+-- The definitions of traces that are followed edge by edge. `believe` marks what a theorem rests
+-- on, and `words` what only says how one function serves another.
 
 -- believe, for `print_at_edge`: what is printed at the edge of a trace that is asked for
 pub mod Printing

@@ -92,7 +92,8 @@ pub record Finds (x : Slacks) (p : Plan) (bytes : List ℕ) : Type 0 where
   pub next : List ℕ
   pub found : IsFound version p x (read_of bytes).seen order next
 
-abbrev pub finds_text : Form → (x : Slacks) → (p : Plan) → (bytes : List ℕ) → Finds x p bytes → List ℕ
+abbrev pub finds_text : Form → (x : Slacks) → (p : Plan) → (bytes : List ℕ) → Finds x p bytes
+    → List ℕ
 finds_text form x p bytes f = found_text form f.version p (read_of bytes).seen f.order f.next
 
 -- Moments without a fault, of which there are too many orders.
@@ -135,7 +136,8 @@ Orders form x p bytes s (Err (fault.Engine _)) = ⊥
 
 -- an order of the whole input
 abbrev pub OrdersInput : Form → Slacks → Streams → Plan → Answer → Type 0
-OrdersInput form x s p answer = (bytes : List ℕ) × IsInput s.from bytes × Orders form x p bytes s answer
+OrdersInput form x s p answer =
+    (bytes : List ℕ) × IsInput s.from bytes × Orders form x p bytes s answer
 
 -- An engine that is lent the text of a scenario: the first fault is answered and `nothing` is
 -- done, or it runs on the plan.

@@ -83,7 +83,8 @@ fn write_edge<W: Write>(
     ensures ok { OnOk result
         (Appends (W.contents out.old) (W.contents out.new) (seen_line form bus.old n seen.now)) }
     ensures front { OnErr result
-        (AppendsFront (W.contents out.old) (W.contents out.new) (seen_line form bus.old n seen.now)) }
+        (AppendsFront (W.contents out.old) (W.contents out.new)
+        (seen_line form bus.old n seen.now)) }
     ensures fault { IfErr result (λ fault. fault ≡ Fault.Write) }
 {
     match form {

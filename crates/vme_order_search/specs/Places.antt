@@ -39,7 +39,8 @@ AreTaken places t = (i : ℕ) → holds t i ≡ has places i
 abbrev pub is_far : List Seen → ℕ → ℕ → ℕ → Bool
 is_far ms reach least place =
     nat_lt least place
-    && option_map_or (λ a. option_map_or (λ b. is_timely a.moment reach b.moment) (slice_get ms place) false)
+    && option_map_or (λ a. option_map_or (λ b. is_timely a.moment reach b.moment)
+    (slice_get ms place) false)
     (slice_get ms least) false
 
 -- no place from the first on, and below the end, can come next

@@ -46,7 +46,9 @@ abbrev pub IsAtMost : List ℕ → List ℕ → Type 0
 IsAtMost r q = (r ≡ q) ⊎ IsLesser r q
 
 -- what is kept of a legal beginning of so many places
-pub record IsKeptAs (t : Task) (trail : Trail) (n : ℕ) (b : Beginning) (path : List ℕ) : Type 0 where
+pub record IsKeptAs
+    (t : Task) (trail : Trail) (n : ℕ) (b : Beginning) (path : List ℕ)
+    : Type 0 where
   pub legal : IsLegalIn t path
   pub count : length path ≡ n
   pub ends : Ends trail b.step path
@@ -155,7 +157,8 @@ pub record IsUnderWay (t : Task) (n m from : ℕ) (s : Search) : Type 0 where
   pub paths : ℕ → List ℕ
   pub longer : ℕ → List ℕ
   pub layer : IsLayer t s.trail s.is_cut n s.layer.kept.items paths
-  pub made : AreLonger t s.trail s.is_cut n m from s.layer.kept.items paths s.longer.kept.items longer
+  pub made : AreLonger t s.trail s.is_cut n m from s.layer.kept.items paths
+      s.longer.kept.items longer
   pub sets : AreSets s.sets s.longer.kept.items longer
   pub cut : IsCutRightly t s
 

@@ -198,8 +198,8 @@ impl Search {
         self.keep(front, place)
     }
 
-    /// Whether it looks for no more sets of places: it has as many as it keeps. A search of full width
-    /// looks on, since there are too many orders only if there is one more.
+    /// Whether it looks for no more sets of places: it has as many as it keeps. A search of full
+    /// width looks on, since there are too many orders only if there is one more.
     #[inline(always)]
     fn is_done(&self) -> bool
         ensures { result ≡ true → self.now.width ≢ most_sets }
@@ -278,8 +278,8 @@ impl Search {
         mem::swap(&mut self.layer, &mut self.longer);
     }
 
-    /// Drops how other beginnings came about, if one alone is kept, which has so many places, and most
-    /// steps are not its own.
+    /// Drops how other beginnings came about, if one alone is kept, which has so many places, and
+    /// most steps are not its own.
     fn drop_others(&mut self, alloc: Global, places: usize) -> Result<(), OrderFault>
         requires fit { IsFit self.old }
         requires few { places < number_limit }

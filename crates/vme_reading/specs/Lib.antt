@@ -1,5 +1,5 @@
--- The definitions of the reading of traces. `believe` marks what a theorem rests on, and `words` what
--- only says how one function serves another.
+-- The definitions of the reading of traces. `believe` marks what a theorem rests on, and `words`
+-- what only says how one function serves another.
 
 -- believe: what was read and what was written, as far as the bytes are known
 pub mod Streams
@@ -11,7 +11,8 @@ pub mod Waiting
 pub mod Pairs
 -- believe, for `check`, `explain` and others: the first edge of a trace that is refused
 pub mod Refusals
--- believe, for `at_edge`: which edge is asked for, and what is left of a trace that is read up to it
+-- believe, for `at_edge`: which edge is asked for, and what is left of a trace that is read up to
+-- it
 pub mod Seeking
 -- believe, for what writes a trace and for `check`: a whole trace whose edges are a legal list
 pub mod LegalTraces

@@ -26,8 +26,8 @@ fn write_lines<W: Write>(backplane: &Backplane, out: &mut W) -> Result<(), Fault
     Ok(())
 }
 
-/// Writes the trace of the edges that were made on a backplane: the header line of its version and a
-/// line for each edge.
+/// Writes the trace of the edges that were made on a backplane: the header line of its version and
+/// a line for each edge.
 ///
 /// # Errors
 /// X8 if the output cannot be written. Then a prefix of the trace is written.

@@ -83,8 +83,8 @@ pub fn compare<A: Read, B: Read>(
 }
 
 /// Writes what is found of two traces on a line, and has the writer hand on what it holds back. If
-/// an edge of the second trace differs, a second line has what the first one has of its driver. Of a
-/// refusal it writes only what comes behind the name of the file.
+/// an edge of the second trace differs, a second line has what the first one has of its driver. Of
+/// a refusal it writes only what comes behind the name of the file.
 ///
 /// # Errors
 /// X8 if the output cannot be written; then a prefix of the lines was written.

@@ -282,7 +282,8 @@ pub fn show<R: Read, W: Write>(
     requires few { to < from + 200 }
     ensures { let s = streams (R.remaining trace.old) (R.remaining trace.new)
         (W.contents out.old) (W.contents out.new) in
-        LentAsking scenario.now (ReadNothing s × WroteNothing s) (ShowsInput from to color s) result }
+        LentAsking scenario.now (ReadNothing s × WroteNothing s)
+        (ShowsInput from to color s) result }
 {
     let stretch = Stretch { from, to, color };
     status_of(read::<Showing, R, W>(alloc, scenario, &stretch, trace, out))

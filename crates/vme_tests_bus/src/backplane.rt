@@ -1,5 +1,5 @@
-//! What no clause says: that a region, a plan, a trace and the list of what was delivered are made if
-//! there is memory for them.
+//! What no clause says: that a region, a plan, a trace and the list of what was delivered are made
+//! if there is memory for them.
 use crate::boards::{FIRST, SECOND, fall, interrupter, requester, rise};
 use std::test::*;
 use vme_arena::Region;

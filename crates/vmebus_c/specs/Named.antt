@@ -48,6 +48,7 @@ abbrev pub edge_of_numbers : ℕ → ℕ → ℕ → ℕ → Option Edge
 edge_of_numbers driver wire fall value = edge_of_parts (driver_of_number driver)
     (wire_of_number wire) (fall_of_number fall) (value_of_number value)
 
--- the edge of one word, from the top: its driver, its wire, 1 for a fall, and its value, a byte each
+-- the edge of one word, from the top: its driver, its wire, 1 for a fall, and its value, a byte
+-- each
 abbrev pub edge_of_word : ℕ → Option Edge
 edge_of_word n = edge_of_numbers (n / 2 ^ 24) (n / 2 ^ 16 % 256) (n / 2 ^ 8 % 256) (n % 256)

@@ -31,9 +31,11 @@ answer_of_numbers answer delivered =
     else (if answer == 256 then Some (Err NoSuchDriver)
     else (if answer == 512 then Some (Err AlreadyThere)
     else (if answer / 256 == 3 && is_rule 26 (answer % 256) then Some (Err (Rule (answer % 256)))
-    else (if answer / 256 == 4 && is_rule 4 (answer % 256) then Some (Err (NotSettled (answer % 256)))
+    else (if answer / 256 == 4 && is_rule 4 (answer % 256) then
+    Some (Err (NotSettled (answer % 256)))
     else None))))
 
 -- its text, as `replay` has it; empty if no step returns the number
 abbrev pub verdict_of_numbers : ℕ → ℕ → List ℕ
-verdict_of_numbers answer delivered = option_map_or verdict_text (answer_of_numbers answer delivered) []
+verdict_of_numbers answer delivered =
+    option_map_or verdict_text (answer_of_numbers answer delivered) []

@@ -108,8 +108,8 @@ pub extern "C" fn vmebus_open_sized(
     }
 }
 
-/// Writes the line of the first fault of a version and a scenario, as the program prints it, such as
-/// `Q3 missing key slots`.
+/// Writes the line of the first fault of a version and a scenario, as the program prints it, such
+/// as `Q3 missing key slots`.
 ///
 /// It returns how many bytes the line has, at most 1,024, and 0 if there is no fault; it writes
 /// nothing if there is less room. A zero byte stands behind the line if there is room for it. If
@@ -404,11 +404,11 @@ pub extern "C" fn vmebus_has(bus: &BusState, driver: u32, wire: u32) -> u32
     }
 }
 
-/// Writes the verdict on an edge, as `replay` prints it, by what a step returned and delivered: `ok`,
-/// `ok irq 4 to 1 from 2 status 65`, `E3 G16`.
+/// Writes the verdict on an edge, as `replay` prints it, by what a step returned and delivered:
+/// `ok`, `ok irq 4 to 1 from 2 status 65`, `E3 G16`.
 ///
-/// It returns how many bytes the verdict has, at most 37, and 0 for a number that is no answer to an
-/// edge; it writes nothing if there is less room. A zero byte stands behind the text if there is
+/// It returns how many bytes the verdict has, at most 37, and 0 for a number that is no answer to
+/// an edge; it writes nothing if there is less room. A zero byte stands behind the text if there is
 /// room for it.
 #[unsafe(no_mangle)]
 pub extern "C" fn vmebus_verdict(answer: u32, delivered: u32, text: &mut [u8]) -> u32
@@ -431,7 +431,8 @@ pub extern "C" fn vmebus_seed_sized(draws: &mut Draws, bytes: usize, seed: u64) 
     ensures other { result ≢ 0 → result ≡ 32 }
     ensures unchanged { result ≢ 0 → draws.new ≡ draws.old }
     ensures numbers { result ≡ 0 → numbers_of draws.new ≡ after_words 28 (generator seed) }
-    ensures weights { result ≡ 0 → (k : KindOf) → weight_of draws.new k ≡ weight (generator seed) k }
+    ensures weights { result ≡ 0
+        → (k : KindOf) → weight_of draws.new k ≡ weight (generator seed) k }
     ensures weighed { result ≡ 0 → AreWeighed draws.new }
     ensures made { result ≡ 0 → (k : KindOf) → made_of draws.new k ≡ 0 }
 {
@@ -452,8 +453,8 @@ pub extern "C" fn vmebus_seed_sized(draws: &mut Draws, bytes: usize, seed: u64) 
 /// It returns 0 if an edge was drawn, and 1 if none of the wires has an open edge; two numbers are
 /// drawn all the same then. It returns 0xffffffff, and leaves the draws as they were, if the record
 /// is not a bus, or if `draws` are those of no seed, such as zeros. Unless it returns 0, `edge`
-/// becomes 0. Draws of a seed that are drawn on all wires, and a bus that is stepped with each edge,
-/// make the trace of `drive --seed`.
+/// becomes 0. Draws of a seed that are drawn on all wires, and a bus that is stepped with each
+/// edge, make the trace of `drive --seed`.
 #[unsafe(no_mangle)]
 pub extern "C" fn vmebus_draw(
     bus: &BusState,
