@@ -44,7 +44,8 @@ module _ (v : Event) (only : Option Driver) (after : ℕ) where
   by_brought w e false rest is none later = later refl
 
   by_drawn : (w : Walk) (q : Option Edge) (more : ℕ) → HasNone w → ((u : Walk) → HasNone u → IsSoOf u.state.plan g v (sought g more u))
-      → IsSoOf w.state.plan g v (option_map_or (λ x. (let r : Ended = record { walk = option_map_or (with_edge (drawn w)) q (drawn w); ending = x } in r)) (ends_by g w.state q) (sought g more (option_map_or (with_edge (drawn w)) q (drawn w))))
+      → IsSoOf w.state.plan g v (option_map_or (λ x. (let r : Ended = record { walk = option_map_or (with_edge (drawn w)) q (drawn w); ending = x } in r)) (ends_by g w.state q)
+      (sought g more (option_map_or (with_edge (drawn w)) q (drawn w))))
   by_drawn w None more none later = none
   by_drawn w (Some e) more none later =
       let u : Walk = with_edge (drawn w) e in

@@ -73,7 +73,8 @@ module _ (x : Ended) (a b : Option (List ℕ)) (held left : List ℕ) (start now
   module _ (is : now ≡ x.walk.state) (keeps : KeepsListed start held a b now left) (c : Option (List ℕ)) where
     -- what was held could not be written
     pub ended_part : AppendsFront b c left → AppendsFront a c (ended_lines x)
-    ended_part w = subst (AppendsFront a c) (sym whole) (front_of_more a c (lines_made x.walk.state) (edge_lines (missed_of x.ending)) (lines_part a b held left start now x.walk.state empty none is keeps c w))
+    ended_part w = subst (AppendsFront a c) (sym whole) (front_of_more a c (lines_made x.walk.state) (edge_lines (missed_of x.ending))
+        (lines_part a b held left start now x.walk.state empty none is keeps c w))
 
     module _ (wrote : Appends b c left) (d : Option (List ℕ)) (ending : Ending) (ends : ending ≡ x.ending) where
       -- the line of the edge that was missed is written behind it

@@ -19,7 +19,8 @@ use Rattle.vme_drive.specs.Drawing.{walk, walk_text, EndsRightly, status_to, Dra
 use Rattle.vme_reading.proofs.LegalTrace.{legal_trace}
 use Rattle.vme_drive.proofs.SoughtGoals.{walk_stays, refused_end}
 
-module _ (p : Plan) (version : Version) (seed n : ℕ) (g : Option Goal) (b : State) (ending : Ending) (is : b ≡ (walk p version seed n g).walk.state) (ends : ending ≡ (walk p version seed n g).ending) where
+module _ (p : Plan) (version : Version) (seed n : ℕ) (g : Option Goal) (b : State) (ending : Ending) (is : b ≡ (walk p version seed n g).walk.state)
+    (ends : ending ≡ (walk p version seed n g).ending) where
   on : IsOn version p (walk p version seed n g).walk
   on = walk_stays version p g n (at_start (bench p version) seed) (record { version = refl; plan = refl })
 

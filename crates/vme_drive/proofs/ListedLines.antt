@@ -73,7 +73,8 @@ pub edge_listed : (b now : State) (e : Edge) (old new : Option (List ℕ)) (held
 edge_listed b now e old new held left is w first listed = subst (λ (s : State). IsListed first new left (lines_made s)) (sym is) (listed_edge first old new held b listed e left w)
 
 -- or could not be
-pub edge_cut : (b end : State) (old new : Option (List ℕ)) (held : List ℕ) → IsBefore b end → AppendsFront old new held → (first : Option (List ℕ)) → IsListed first old held (lines_made b) → AppendsFront first new (lines_made end)
+pub edge_cut : (b end : State) (old new : Option (List ℕ)) (held : List ℕ) → IsBefore b end → AppendsFront old new held → (first : Option (List ℕ)) → IsListed first old held (lines_made b)
+    → AppendsFront first new (lines_made end)
 edge_cut b end old new held before w first listed = front_later first new b end before (listed_part first old new held b listed w)
 
 -- from a text without bytes, before the first edge

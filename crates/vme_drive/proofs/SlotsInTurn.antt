@@ -164,7 +164,8 @@ module _ (r n : ℕ) (b : State) where
 
   -- the lines up to a slot's turn are the first of those of all boards' turns
   pub slots_front : (k : ℕ) → IsAccepted b.plan → (first new : Option (List ℕ)) → AppendsFront first new (lines_made (up_to_slot k)) → AppendsFront first new (lines_made (turns r n b (boards b.plan)))
-  slots_front k ok first new w = front_later first new (up_to_slot k) (turns r n b (boards b.plan)) (subst (IsBefore (up_to_slot k)) (sym (boards_in_turn b.plan.slots)) (by_place (ltb b.plan.slots k) refl)) w
+  slots_front k ok first new w = front_later first new (up_to_slot k) (turns r n b (boards b.plan)) (subst (IsBefore (up_to_slot k)) (sym (boards_in_turn b.plan.slots))
+      (by_place (ltb b.plan.slots k) refl)) w
     where
       by_place : (c : Bool) → ltb b.plan.slots k ≡ c → IsBefore (up_to_slot k) (up_to_slot b.plan.slots)
       by_place true e =

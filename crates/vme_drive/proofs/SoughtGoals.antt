@@ -86,7 +86,8 @@ module _ (version : Version) (p : Plan) (g : Goal) where
   turned_stays w None on = drawn_stays w (next_edge w) on
   turned_stays w (Some e) on = on
 
-  ended_stays : (w : Walk) (o : Option Ending) (rest : Ended) → IsOn version p w → IsOn version p rest.walk → IsOn version p (option_map_or (λ x. (let r : Ended = record { walk = w; ending = x } in r)) o rest).walk
+  ended_stays : (w : Walk) (o : Option Ending) (rest : Ended) → IsOn version p w → IsOn version p rest.walk
+      → IsOn version p (option_map_or (λ x. (let r : Ended = record { walk = w; ending = x } in r)) o rest).walk
   ended_stays w None rest on later = later
   ended_stays w (Some x) rest on later = on
 
@@ -111,12 +112,14 @@ module _ (g : Goal) where
   by_brought w v false rest later e is = later e is
 
   by_drawn : (w : Walk) (q : Option Edge) (more : ℕ) → ((v : Walk) → IsMissed (sought g more v))
-      → IsMissed (option_map_or (λ x. (let r : Ended = record { walk = option_map_or (with_edge (drawn w)) q (drawn w); ending = x } in r)) (ends_by g w.state q) (sought g more (option_map_or (with_edge (drawn w)) q (drawn w))))
+      → IsMissed (option_map_or (λ x. (let r : Ended = record { walk = option_map_or (with_edge (drawn w)) q (drawn w); ending = x } in r)) (ends_by g w.state q)
+      (sought g more (option_map_or (with_edge (drawn w)) q (drawn w))))
   by_drawn w None more later e is = absurd (cc)
   by_drawn w (Some d) more later e is = by_brought w (with_edge (drawn w) d) (brings g w.state d) (sought g more (with_edge (drawn w) d)) (later (with_edge (drawn w) d)) e is
 
   by_missed : (w : Walk) (o : Option Edge) (more : ℕ) → missed_by g w.state ≡ o → ((v : Walk) → IsMissed (sought g more v))
-      → IsMissed (option_map_or (λ x. (let r : Ended = record { walk = option_map_or (λ _. w) o (drawn_on w); ending = x } in r)) (option_map_or (λ e. Some (Missed e)) o (ends_by g w.state (next_edge w))) (sought g more (option_map_or (λ _. w) o (drawn_on w))))
+      → IsMissed (option_map_or (λ x. (let r : Ended = record { walk = option_map_or (λ _. w) o (drawn_on w); ending = x } in r))
+      (option_map_or (λ e. Some (Missed e)) o (ends_by g w.state (next_edge w))) (sought g more (option_map_or (λ _. w) o (drawn_on w))))
   by_missed w None more is later e same = by_drawn w (next_edge w) more later e same
   by_missed w (Some d) more is later e same = let one : d ≡ e = cc in is ∙ ap (λ x. Some x) one
 
@@ -124,7 +127,8 @@ module _ (g : Goal) where
   sought_missed zero w e is = absurd (cc)
   sought_missed (suc more) w e is = by_missed w (missed_by g w.state) more refl (sought_missed more) e is
 
-found_by : {X : Type 0} (test : X → Bool) (y : X) (b : Bool) (ys : List X) (x : X) → test y ≡ b → (if b then Some y else find test ys) ≡ Some x → (find test ys ≡ Some x → test x ≡ true) → test x ≡ true
+found_by : {X : Type 0} (test : X → Bool) (y : X) (b : Bool) (ys : List X) (x : X) → test y ≡ b → (if b then Some y else find test ys) ≡ Some x
+    → (find test ys ≡ Some x → test x ≡ true) → test x ≡ true
 found_by test y true ys x holds is later = let same : y ≡ x = cc in sym (ap test same) ∙ holds
 found_by test y false ys x holds is later = later is
 
@@ -199,7 +203,8 @@ formed_end g n w = formed_ending g n w (walk_to g n w).ending refl
 
 -- ---- the marks of a walk, by the places of its edges
 
-pub printed_comes : (b s : State) (m : Marks) (e : Edge) (v : Event) (r : Bool) → b ≡ s → IsMarksOf s.plan (by_place s.history) m → OfOrdered b m (λ _. r ≡ comes b.plan b.history e v) → r ≡ comes s.plan s.history e v
+pub printed_comes : (b s : State) (m : Marks) (e : Edge) (v : Event) (r : Bool) → b ≡ s → IsMarksOf s.plan (by_place s.history) m → OfOrdered b m (λ _. r ≡ comes b.plan b.history e v) → r
+    ≡ comes s.plan s.history e v
 printed_comes b s m e v r same marked printed =
     printed (by_place s.history) (length s.history + 1) (edges_placed s.history ∙ sym (ap (λ (x : State). x.history) same))
     (subst (λ (p : Plan). IsMarksOf p (by_place s.history) m) (sym (ap (λ (x : State). x.plan) same)) marked) (places_below s.history)

@@ -32,7 +32,8 @@ use Rattle.vme_reading.proofs.Waits.{waits_now}
 use Rattle.vme_reading.proofs.WrittenLines.{appends_behind, front_after}
 
 -- of a command that prints a block
-pub lent_known : (text : List ℕ) (nothing : Type 0) (Runs : Plan → Answer → Type 0) (r : Result Printed EngineFault) → ReadsLent text nothing (λ p a. Runs p (printed_answer a)) r → LentAsking text nothing Runs (printed_status r)
+pub lent_known : (text : List ℕ) (nothing : Type 0) (Runs : Plan → Answer → Type 0) (r : Result Printed EngineFault) → ReadsLent text nothing (λ p a. Runs p (printed_answer a)) r
+    → LentAsking text nothing Runs (printed_status r)
 lent_known text nothing Runs (Ok (Block status)) h = h
 lent_known text nothing Runs (Ok (Beyond n)) h = h
 lent_known text nothing Runs (Err fault.TooLong) h = h
@@ -69,7 +70,8 @@ module _ (p : Plan) (v : Version) (all : List ℕ) (s : Streams) (es : List Edge
   reached_is None front rest split h = absurd cc
 
   -- the place that was reached is printed
-  stated : (after : Option ℕ) (front rest : List Edge) (W : List ℕ → Type 0) → es ≡ front ++ rest → IsReached after (read_of all) s (length front) → W (printed_behind stands_text p v front) → (text : List ℕ) × IsStated after p (read_of all) s text × W text
+  stated : (after : Option ℕ) (front rest : List Edge) (W : List ℕ → Type 0) → es ≡ front ++ rest → IsReached after (read_of all) s (length front) → W (printed_behind stands_text p v front)
+      → (text : List ℕ) × IsStated after p (read_of all) s text × W text
   stated after front rest W split reached w =
       let taken : take (length front) (read_of all).edges ≡ front = front_taken (read_of all).edges es front rest begins.others begins.edges split in (
         printed_behind stands_text p v front,
@@ -90,7 +92,8 @@ module _ (p : Plan) (v : Version) (before es : List Edge) (more : Result Bool Fa
         let size : first.judged + count ≡ length (before ++ take count es) = sym h.2 ∙ follows.judged in
         let split : before ++ es ≡ (before ++ take count es) ++ drop count es = ap (λ l. before ++ l) (sym (take-append-drop count es)) ∙ sym (append_assoc before (take count es) (drop count es)) in
         stated p v trace (streams from to old new) (before ++ es) more came place (before ++ take count es) (drop count es) W split
-        (reached_is p v trace (streams from to old new) (before ++ es) more came place (before ++ take count es) (drop count es) split (sym same ∙ h.1 ∙ ap (λ (n : ℕ). Some n) size)) (wrote p v (before ++ take count es) follows)
+        (reached_is p v trace (streams from to old new) (before ++ es) more came place (before ++ take count es) (drop count es) split (sym same ∙ h.1 ∙ ap (λ (n : ℕ). Some n) size))
+        (wrote p v (before ++ take count es) follows)
 
     pub states_now : (count : ℕ) → Reaches asked first es now (Some count) → OfAfter now (λ p v fs. Appends mid new (printed_behind stands_text p v fs))
         → LeavesNow (λ trace s a. States place p trace s (printed_answer a)) v (before ++ es) more old new (Ok (Block Done))
@@ -118,7 +121,8 @@ module _ (p : Plan) (v : Version) (before es : List Edge) (more : Result Bool Fa
         → LeavesNow (λ trace s a. States place p trace s (printed_answer a)) v (before ++ es) more old new (Ok (Beyond n))
     states_beyond n wanted number is_more kept_too count low h = λ trace from to came.
         let is_place = sym same ∙ number in
-        let far : IsAhead (Some wanted) (Some v) (before ++ es) = subst (λ (o : Option ℕ). IsAhead o (Some v) (before ++ es)) is_place (ahead place low (subst (λ (o : Option ℕ). IsBehind o first.judged es) same h.0)) in
+        let far : IsAhead (Some wanted) (Some v) (before ++ es) = subst (λ (o : Option ℕ). IsAhead o (Some v) (before ++ es)) is_place
+        (ahead place low (subst (λ (o : Option ℕ). IsBehind o first.judged es) same h.0)) in
         let end : Came v trace from to (before ++ es) (Ok false) = subst (Came v trace from to (before ++ es)) is_more came in
         (wanted, is_place, omega (arith, far, count), end.2, count ∙ ap length (sym end.1), end.3, Keeps-trans old mid new kept_so kept_too)
 
@@ -128,7 +132,8 @@ module _ (p : Plan) (v : Version) (before es : List Edge) (more : Result Bool Fa
     end_place W number is_more follows wrote trace from to came =
         let end : Came v trace from to (before ++ es) (Ok false) = subst (Came v trace from to (before ++ es)) is_more came in
         stated p v trace (streams from to old new) (before ++ es) more came place (before ++ es) [] W (sym (append-nil (before ++ es)))
-        (subst (λ (o : Option ℕ). IsReached o (read_of trace) (streams from to old new) (length (before ++ es))) (sym number ∙ same) (ap length (sym end.1), end.2, end.3)) (wrote p v (before ++ es) follows)
+        (subst (λ (o : Option ℕ). IsReached o (read_of trace) (streams from to old new) (length (before ++ es))) (sym number ∙ same) (ap length (sym end.1), end.2, end.3))
+        (wrote p v (before ++ es) follows)
 
     pub states_end : asked ≡ None → more ≡ Ok false → IsAfter p v (before ++ es) now → OfAfter now (λ p v fs. Appends mid new (printed_behind stands_text p v fs))
         → LeavesNow (λ trace s a. States place p trace s (printed_answer a)) v (before ++ es) more old new (Ok (Block Done))
@@ -140,9 +145,13 @@ module _ (p : Plan) (v : Version) (before es : List Edge) (more : Result Bool Fa
     states_end_cut f write number is_more follows wrote = λ trace from to came.
         let t = end_place (AppendsFront old new) number is_more follows (λ p v fs k. front_after old mid new _ kept_so (wrote p v fs k)) trace from to came in inr (write, t.0, t.1, t.2)
 
-    pub states_stop : (f : Fault) → more ≡ Err f → Keeps mid new → IsNotBefore place before → Reaches asked first es now None → LeavesNow (λ trace s a. States place p trace s (printed_answer a)) v (before ++ es) more old new (Err f)
+    pub states_stop : (f : Fault) → more ≡ Err f → Keeps mid new → IsNotBefore place before → Reaches asked first es now None → LeavesNow (λ trace s a. States place p trace s (printed_answer a)) v
+        (before ++ es) more old new (Err f)
     states_stop f is_more kept_too low h = λ trace from to came.
-        inl (waits_now (IsAhead place) v trace (streams from to old new) (before ++ es) more came (ahead place low (subst (λ (o : Option ℕ). IsBehind o first.judged es) same h.0)) f is_more, Keeps-trans old mid new kept_so kept_too)
+        inl (
+          waits_now (IsAhead place) v trace (streams from to old new) (before ++ es) more came (ahead place low (subst (λ (o : Option ℕ). IsBehind o first.judged es) same h.0)) f is_more,
+          Keeps-trans old mid new kept_so kept_too,
+        )
 
 -- ---- before the first edge
 

@@ -52,9 +52,9 @@ pub fn status_of(printed: Result<Printed, EngineFault>) -> Result<Status, Engine
     }
 }
 
-/// How many of `len` edges after the first `judged` are among the first `n`, unless all are and
-/// more.
-fn count_up_to(n: Option<u64>, judged: u64, len: usize) -> Option<usize>
+/// How many of the next `len` edges lead to the place behind the first `n` of a trace, of which
+/// `judged` came before. None if no place is asked for, or it is not reached by these edges.
+fn edges_to_place(n: Option<u64>, judged: u64, len: usize) -> Option<usize>
     ensures some { IfSome result (λ count. (n ≡ Some (judged + count)) × (count ≤ len)) }
     ensures none { IfNone result
         ((wanted : ℕ) → n ≡ Some wanted → judged ≤ wanted → judged + len < wanted) }
@@ -159,7 +159,7 @@ impl Following {
         requires { self.old.judged + length edges.now < 2 ^ 64 }
         ensures { Reaches n self.old edges.now self.new result }
     {
-        let count = count_up_to(n, self.judged, edges.len());
+        let count = edges_to_place(n, self.judged, edges.len());
         self.follow(&edges[..count.unwrap_or(edges.len())]);
         count
     }

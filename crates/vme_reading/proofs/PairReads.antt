@@ -98,7 +98,8 @@ unbegun_meets from to f h = (h.0, h.1, stops_unread (λ w fs. Unit {0}) tt h.0 (
 pub formed_new : (from to : Option (List ℕ)) (v : Version) (es new : List Edge) (input : Input) → HasCome from to v (es ++ new) input → AreWellFormed new
 formed_new from to v es new input h = (formed_both es new (formed_first from to [] input.reads input.reader (es ++ new) input.more h.came)).1
 
-pub side_begun : (from at : Option (List ℕ)) (v : Version) (input : Input) (none count : ℕ) → HasBegun from at v input → input.more ≡ Ok (goes_on input.more) → none ≡ 0 → count ≡ none + length input.edges.items
+pub side_begun : (from at : Option (List ℕ)) (v : Version) (input : Input) (none count : ℕ) → HasBegun from at v input → input.more ≡ Ok (goes_on input.more) → none ≡ 0 → count
+    ≡ none + length input.edges.items
     → IsSide from at v input.edges.items count input
 side_begun from at v input none count h unfaulted is more = record { came = h; unfaulted = unfaulted; counted = omega (arith, is, more) }
 

@@ -18,7 +18,8 @@ use Rattle.vme_reading.proofs.ReadOn.{came_is, unread}
 
 -- ---- a piece
 
-module _ {S A : Type 0} (stands : List Edge → Option (List ℕ) → Option (List ℕ) → S → Type 0) (leaves : Leaving A) (v : Version) (es fs : List Edge) (more : Result Bool Fault) (old new : Option (List ℕ)) (now : S) (same : es ≡ fs) where
+module _ {S A : Type 0} (stands : List Edge → Option (List ℕ) → Option (List ℕ) → S → Type 0) (leaves : Leaving A) (v : Version) (es fs : List Edge) (more : Result Bool Fault)
+    (old new : Option (List ℕ)) (now : S) (same : es ≡ fs) where
   pub took_none : (o : Option A) → o ≡ None → Takes stands leaves v es more old new now (Ok o) → stands fs old new now
   took_none None is h = subst (λ l. stands l old new now) same h
   took_none (Some a) is h = absurd cc
@@ -37,7 +38,10 @@ went_on more count all (Some a) is h = absurd cc
 -- ---- the loop
 
 -- The judge goes on: it stands behind the edges of the trace so far.
-pub record IsUnderWay {S : Type 0} (stands : List Edge → Option (List ℕ) → Option (List ℕ) → S → Type 0) (v : Version) (head : List ℕ) (from at old mid : Option (List ℕ)) (judge : S) (reader : trace.ReaderState) (left : ℕ) : Type 0 where
+pub record IsUnderWay
+    {S : Type 0} (stands : List Edge → Option (List ℕ) → Option (List ℕ) → S → Type 0) (v : Version) (head : List ℕ) (from at old mid : Option (List ℕ)) (judge : S) (reader : trace.ReaderState)
+    (left : ℕ)
+    : Type 0 where
   pub es : List Edge
   pub reading : IsReading head from at reader left es
   pub known : reader.version ≡ Some v
@@ -56,7 +60,8 @@ module _ (v : Version) (head : List ℕ) (from to old new : Option (List ℕ)) (
   leaves_unread leaves answer reading left_so =
       let all = unread v from to head left reader es known reading in (all.0, all.1, left_so (head ++ all.0) from to all.2)
 
-  pub under_way : {S : Type 0} (stands : List Edge → Option (List ℕ) → Option (List ℕ) → S → Type 0) (more : Result Bool Fault) (now : S) → more ≡ Ok true → Comes from to head left reader es more → stands es old new now
+  pub under_way : {S : Type 0} (stands : List Edge → Option (List ℕ) → Option (List ℕ) → S → Type 0) (more : Result Bool Fault) (now : S) → more ≡ Ok true → Comes from to head left reader es
+      more → stands es old new now
       → IsUnderWay stands v head from to old new now reader left
   under_way stands more now is came h = record {
     es = es;
@@ -68,7 +73,8 @@ module _ (v : Version) (head : List ℕ) (from to old new : Option (List ℕ)) (
 -- ---- the scenario
 
 -- less is known of what was done
-pub lent_reading : {A : Type 0} (text : List ℕ) (nothing more : Type 0) (Reads : Plan → Result A Fault → Type 0) (r : Result A EngineFault) → ReadsLent text (nothing × more) Reads r → ReadsLent text nothing Reads r
+pub lent_reading : {A : Type 0} (text : List ℕ) (nothing more : Type 0) (Reads : Plan → Result A Fault → Type 0) (r : Result A EngineFault) → ReadsLent text (nothing × more) Reads r
+    → ReadsLent text nothing Reads r
 lent_reading text nothing more Reads (Ok a) h = h
 lent_reading text nothing more Reads (Err fault.TooLong) h = (h.0, h.1.0)
 lent_reading text nothing more Reads (Err (fault.Scenario e)) h = (h.0, h.1, h.2.0)
@@ -78,7 +84,8 @@ lent_reading text nothing more Reads (Err fault.NoMemory) h = (h.0, h.1, h.2, h.
 lent_reading text nothing more Reads (Err (fault.Beyond n)) h = absurd h
 
 -- of a command that answers with a status
-pub lent_status : (text : List ℕ) (nothing : Type 0) (Runs : Plan → Answer → Type 0) (r : Result Status EngineFault) → ReadsLent text nothing (λ p a. Runs p (traced a)) r → LentAsking text nothing Runs r
+pub lent_status : (text : List ℕ) (nothing : Type 0) (Runs : Plan → Answer → Type 0) (r : Result Status EngineFault) → ReadsLent text nothing (λ p a. Runs p (traced a)) r
+    → LentAsking text nothing Runs r
 lent_status text nothing Runs (Ok status) h = h
 lent_status text nothing Runs (Err fault.TooLong) h = h
 lent_status text nothing Runs (Err (fault.Scenario e)) h = h

@@ -27,6 +27,7 @@ module _ (Waits : Option Version → List Edge → Type 0) (v : Version) (all : 
   stops_waiting Write h = absurd h
 
 -- by what the last read answered
-pub waits_now : (Waits : Option Version → List Edge → Type 0) (v : Version) (all : List ℕ) (s : Streams) (es : List Edge) (more : Result Bool Fault) → Came v all s.from s.to es more → Waits (Some v) es → (f : Fault) → more ≡ Err f → StopsWaiting Waits all s f
+pub waits_now : (Waits : Option Version → List Edge → Type 0) (v : Version) (all : List ℕ) (s : Streams) (es : List Edge) (more : Result Bool Fault) → Came v all s.from s.to es more
+    → Waits (Some v) es → (f : Fault) → more ≡ Err f → StopsWaiting Waits all s f
 waits_now Waits v all s es more came waits f is =
     let end : Came v all s.from s.to es (Err f) = subst (Came v all s.from s.to es) is came in stops_waiting Waits v all s es end.0 waits f end.1

@@ -27,9 +27,13 @@ IsNoPlan text _ = ⊥
 
 -- ---- reading
 
+-- how many bytes a read asks for
+abbrev pub piece_size : ℕ
+piece_size = 69632
+
 -- room for so many reads, of a piece each, keeps every count far from its limit
 abbrev pub IsBounded : List ℕ → ℕ → Type 0
-IsBounded bytes left = length bytes + 69632 * left ≤ 2 ^ 41
+IsBounded bytes left = length bytes + piece_size * left ≤ 2 ^ 41
 
 -- a trace of this version begins with these edges
 pub record Begins (r : Reading) (v : Version) (es : List Edge) : Type 0 where

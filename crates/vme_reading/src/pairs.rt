@@ -8,6 +8,7 @@ ghost use Rattle.vme_reading.specs.Begun.{HasCome, IsUntouched};
 ghost use Rattle.vme_reading.specs.Streams.{Streams, streams, ReadNothing};
 ghost use Rattle.vme_reading.specs.Pairs.{EitherMeets, LentPair, MeetsFault, ReadsPair};
 ghost use Rattle.vme_reading.specs.Sides.{AreUnderWay, goes_on, next_turn};
+ghost use Rattle.vme_reading.specs.Steps.{piece_size};
 
 use crate::EngineFault;
 use crate::pieces::buffer_of;
@@ -189,7 +190,7 @@ fn reported_fault<A: Read>(
     buffer: &mut [u8],
     first: &mut A,
 ) -> PairFault
-    requires room { length buffer.old ≡ 69632 }
+    requires room { length buffer.old ≡ piece_size }
     ensures { (from : Option (List ℕ)) (v : VersionValue) (es : List EdgeValue) (t : Streams)
         → HasCome from (A.remaining first.old) v es input.old → MeetsFault t fault
         → EitherMeets (streams from (A.remaining first.new) None None) t result }
@@ -210,7 +211,7 @@ fn begin_both<J: Pair, A: Read, B: Read>(
     other: &mut Input,
     second: &mut B,
 ) -> Result<J, PairFault>
-    requires room { length buffer.old ≡ 69632 }
+    requires room { length buffer.old ≡ piece_size }
     requires one { IsUntouched one.old }
     requires other { IsUntouched other.old }
     ensures begun { IfOk result (λ judge.
@@ -251,7 +252,7 @@ fn read_both<J: Pair, A: Read, B: Read>(
     first: &mut A,
     second: &mut B,
 ) -> Result<J, PairFault>
-    requires room { length buffer.old ≡ 69632 }
+    requires room { length buffer.old ≡ piece_size }
     ensures { let s = streams (A.remaining first.old) (A.remaining first.new) None None in
         let t = streams (B.remaining second.old) (B.remaining second.new) None None in
         ReadsPair (λ v w es fs. J.stands task.now plan v w es true fs true) s t result }

@@ -1,5 +1,6 @@
 //! The pieces in which a trace is read.
 ghost use Rattle.std.specs.Prelude.{◌≡◌, ◌<◌, ◌-◌, ◌⊎◌, ◌↔◌, Some, IsTrue, length, slice_get, IfOk, IfErr};
+ghost use Rattle.vme_reading.specs.Steps.{piece_size};
 
 use crate::{EngineFault, PIECE};
 use std::alloc::Global;
@@ -14,7 +15,7 @@ pub const JUDGED_AT_ONCE: usize = 512;
 /// # Errors
 /// F3 if its memory is refused. An engine that reads a trace asks for no other memory by that name.
 pub fn buffer_of(alloc: Global) -> Result<Vec<u8>, EngineFault>
-    ensures room { IfOk result (λ buffer. length buffer.items ≡ 69632) }
+    ensures room { IfOk result (λ buffer. length buffer.items ≡ piece_size) }
     ensures fault { IfErr result (λ fault. fault ≡ EngineFault.NoMemory) }
 {
     let mut buffer = Vec::new(alloc);

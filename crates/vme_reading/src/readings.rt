@@ -7,7 +7,7 @@ ghost use Rattle.vme_model.specs.Locality.{AreWellFormed};
 ghost use Rattle.vme_trace.specs.declared.Fault.{Fault as FaultValue};
 ghost use Rattle.vme_reading.specs.Streams.{Streams, streams, ReadNothing, WroteNothing};
 ghost use Rattle.vme_reading.specs.Outcomes.{bench};
-ghost use Rattle.vme_reading.specs.Steps.{IsCounted};
+ghost use Rattle.vme_reading.specs.Steps.{IsCounted, piece_size};
 ghost use Rattle.vme_reading.specs.Waiting.{StopsWaiting};
 ghost use Rattle.vme_reading.specs.Begun.{IsUnread};
 ghost use Rattle.vme_reading.specs.Readings.{GoesOn, Takes, ReadsOn, ReadsInput, ReadsLent};
@@ -95,7 +95,7 @@ pub fn read_on<J: Judge, R: Read, W: Write>(
     input: &mut R,
     out: &mut W,
 ) -> Result<J::Answer, Fault>
-    requires room { length buffer.old ≡ 69632 }
+    requires room { length buffer.old ≡ piece_size }
     requires counted { first ≡ Ok true → IsCounted reader.old reads (length edges.old.items) }
     requires well_formed { AreWellFormed edges.old.items }
     requires begun { J.count judge.old ≡ 0 }
@@ -134,7 +134,7 @@ fn read_trace<J: Judge, R: Read, W: Write>(
     trace: &mut R,
     out: &mut W,
 ) -> Result<J::Answer, Fault>
-    requires room { length buffer.old ≡ 69632 }
+    requires room { length buffer.old ≡ piece_size }
     requires can { J.can task.now }
     ensures { ReadsInput (J.leaves task.now plan)
         (streams (R.remaining trace.old) (R.remaining trace.new)

@@ -4,7 +4,7 @@ ghost use Rattle.vme_model.specs.declared.signals.Edge.{Edge as EdgeValue};
 ghost use Rattle.vme_model.specs.declared.signals.Version.{Version as VersionValue};
 ghost use Rattle.vme_trace.specs.Reading.{HasRead};
 ghost use Rattle.vme_reading.specs.Streams.{streams};
-ghost use Rattle.vme_reading.specs.Steps.{Opens};
+ghost use Rattle.vme_reading.specs.Steps.{Opens, piece_size};
 ghost use Rattle.vme_reading.specs.Readings.{ReadsInput};
 ghost use Rattle.vme_model.specs.Plan.{Plan as PlanValue};
 ghost use Rattle.vme_reading.specs.Begun.{IsUntouched, IsReady, HasCome, HasBegun, IsUnbegun};
@@ -52,7 +52,7 @@ impl Input {
         buffer: &mut [u8],
         trace: &mut R,
     ) -> Result<Version, Fault>
-        requires room { length buffer.old ≡ 69632 }
+        requires room { length buffer.old ≡ piece_size }
         requires untouched { IsUntouched self.old }
         ensures ready { OnOk result (IsReady self.new) }
         ensures begun { IfOk result (λ version.
@@ -79,7 +79,7 @@ impl Input {
         trace: &mut R,
         out: &mut W,
     ) -> Result<J::Answer, Fault>
-        requires room { length buffer.old ≡ 69632 }
+        requires room { length buffer.old ≡ piece_size }
         requires ready { IsReady self.old }
         requires begun { J.count judge.old ≡ 0 }
         ensures { (task : J.Task) (p : PlanValue) (v : VersionValue) (from : Option (List ℕ))
@@ -114,7 +114,7 @@ impl Input {
     /// Reads the next piece of the trace into the buffer of a piece. The edges are then those of
     /// this piece alone.
     pub(crate) fn read_piece<R: Read>(&mut self, buffer: &mut [u8], trace: &mut R)
-        requires room { length buffer.old ≡ 69632 }
+        requires room { length buffer.old ≡ piece_size }
         requires goes_on { self.old.more ≡ Ok true }
         ensures comes { (from : Option (List ℕ)) (v : VersionValue) (es : List EdgeValue)
             → HasCome from (R.remaining trace.old) v es self.old
@@ -138,7 +138,7 @@ impl Input {
         buffer: &mut [u8],
         trace: &mut R,
     ) -> Result<(), Fault>
-        requires room { length buffer.old ≡ 69632 }
+        requires room { length buffer.old ≡ piece_size }
         ensures whole { OnOk result ((from : Option (List ℕ)) (v : VersionValue)
             (es : List EdgeValue) → HasCome from (R.remaining trace.old) v es self.old
             → (fs : List EdgeValue)
@@ -166,7 +166,7 @@ fn open<R: Read>(
     edges: &mut Vec<Edge>,
     buffer: &mut [u8],
 ) -> (Result<bool, Fault>, u32)
-    requires room { length buffer.old ≡ 69632 }
+    requires room { length buffer.old ≡ piece_size }
     requires reader { HasRead reader.old [] [] }
     requires empty { edges.old.items ≡ [] }
     ensures { Opens (R.remaining input.old) (R.remaining input.new)

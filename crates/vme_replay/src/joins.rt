@@ -3,6 +3,7 @@ ghost use Rattle.std.specs.Prelude.{◌≡◌, ◌+◌, ◌<◌, ◌≤◌, ◌+
 ghost use Rattle.vme_model.specs.Text.{header};
 ghost use Rattle.vme_trace.specs.Reading.{HasRead};
 ghost use Rattle.vme_reading.specs.Streams.{streams};
+ghost use Rattle.vme_reading.specs.Steps.{piece_size};
 ghost use Rattle.vme_replay.specs.Joining.{Joins};
 ghost use Rattle.vme_replay.specs.Front.{header_line, IsHeld, IsFront, IsTextOf, Takes, Finds, Starts, JoinsBehind, ReplaysBehind};
 
@@ -158,7 +159,7 @@ fn replay_rest<R: Read, W: Write>(
     input: &mut R,
     out: &mut W,
 ) -> Result<Status, Fault>
-    requires room { length buffer.old ≡ 69632 }
+    requires room { length buffer.old ≡ piece_size }
     requires rest { length rest.now ≤ 512 }
     requires reads { reads < 16777216 }
     ensures { ReplaysBehind plan version rest.now

@@ -26,7 +26,8 @@ skips b es fs from w h (inl none) = subst (λ l. IsKept b l from w) (sym (append
 skips b es fs from None h (inr before) = let both = length-append es fs in omega (arith, both, before)
 skips b es fs from (Some w) h (inr before) = absurd (let at = h.0 in omega (arith, at, before))
 
-pub skipped : (b : State) (es fs : List Edge) (old new : Stage) → IsBefore old (length fs) → new.bus ≡ kept old.bus fs → new.judged ≡ old.judged + length fs → new.stretch ≡ old.stretch → new.window ≡ old.window
+pub skipped : (b : State) (es fs : List Edge) (old new : Stage) → IsBefore old (length fs) → new.bus ≡ kept old.bus fs → new.judged ≡ old.judged + length fs → new.stretch ≡ old.stretch
+    → new.window ≡ old.window
     → IsShown b es old → IsShown b (es ++ fs) new
 skipped b es fs old new before is count same window h = record {
   bus = is ∙ ap (λ s. kept s fs) h.bus ∙ sym (kept_append b es fs);
@@ -60,7 +61,8 @@ columns_push : (b : State) (es : List Edge) (e : Edge) → columns b (es ++ e �
 columns_push b [] e = refl
 columns_push b (f ∷ es) e = ap (λ l. (b, f) ∷ l) (columns_push (after b f) es e)
 
-pub grown : (b here : State) (es : List Edge) (e : Edge) (from : ℕ) (w v : Seen) → here ≡ kept b es → Begun b es from w → v ≡ with_column w (column_of (here, e)) → IsKept b (es ++ e ∷ []) from (Some v)
+pub grown : (b here : State) (es : List Edge) (e : Edge) (from : ℕ) (w v : Seen) → here ≡ kept b es → Begun b es from w → v ≡ with_column w (column_of (here, e))
+    → IsKept b (es ++ e ∷ []) from (Some v)
 grown b here es e from w v is h added =
     let reached = h.reached in
     let within : from - 1 ≤ length es = omega arith in
@@ -104,10 +106,12 @@ pub window_text : (b : State) (es : List Edge) (s : Stage) (w : Seen) → s.judg
     → picture s.stretch.color w.first (kept b (take (s.stretch.from - 1) es)) (drop (s.stretch.from - 1) es) ≡ stretch_text s.stretch b es
 window_text b es s w within first h =
     ap (λ n. picture s.stretch.color n (kept b (take (s.stretch.from - 1) es)) (drop (s.stretch.from - 1) es)) first
-    ∙ ap (λ l. picture s.stretch.color s.stretch.from (kept b (take (s.stretch.from - 1) es)) (drop (s.stretch.from - 1) l)) (sym (take_all s.stretch.to es (let is = h.judged in omega (arith, is, within))))
+    ∙ ap (λ l. picture s.stretch.color s.stretch.from (kept b (take (s.stretch.from - 1) es)) (drop (s.stretch.from - 1) l))
+    (sym (take_all s.stretch.to es (let is = h.judged in omega (arith, is, within))))
 
 -- it was drawn, but not handed on
-pub flushed : {A : Type 0} (r : Result A Fault) (s : Stage) (w : Seen) (x y z : Option (List ℕ)) → ((b : State) (es : List Edge) → IsWindowOf b w.first es w → Appends x y (picture s.stretch.color w.first b es)) → Keeps y z → s.judged ≤ s.stretch.to
+pub flushed : {A : Type 0} (r : Result A Fault) (s : Stage) (w : Seen) (x y z : Option (List ℕ))
+    → ((b : State) (es : List Edge) → IsWindowOf b w.first es w → Appends x y (picture s.stretch.color w.first b es)) → Keeps y z → s.judged ≤ s.stretch.to
     → w.first ≡ s.stretch.from → s.window ≡ Some w → OnErr r ((b : State) (es : List Edge) → IsShown b es s → AppendsFront x z (stretch_text s.stretch b es))
 flushed r s w x y z wrote kept_so within first same =
     on_err r ((b : State) (es : List Edge) → IsShown b es s → AppendsFront x z (stretch_text s.stretch b es))
@@ -115,7 +119,8 @@ flushed r s w x y z wrote kept_so within first same =
     let window : IsKept b es s.stretch.from (Some w) = subst (λ (o : Option Seen). IsKept b es s.stretch.from o) same h.window in
     front_kept x y z (stretch_text s.stretch b es)
     (subst (Appends x y) (window_text b es s w within first h)
-    (wrote (kept b (take (s.stretch.from - 1) es)) (drop (s.stretch.from - 1) es) (subst (λ n. IsWindowOf (kept b (take (s.stretch.from - 1) es)) n (drop (s.stretch.from - 1) es) w) (sym first) window.1))) kept_so)
+    (wrote (kept b (take (s.stretch.from - 1) es)) (drop (s.stretch.from - 1) es) (subst (λ n. IsWindowOf (kept b (take (s.stretch.from - 1) es)) n (drop (s.stretch.from - 1) es) w)
+    (sym first) window.1))) kept_so)
 
 -- ---- the end of a piece
 
@@ -138,7 +143,8 @@ here_is es fs n to few sum =
     ∙ take_at (es ++ take n fs) (drop n fs) to (let all = length-append es (take n fs) in let part = length-take-le n fs few in omega (arith, all, part, sum)))
 
 -- it came to its last edge within this piece
-pub ends_then : (s : Stretch) (b : State) (es fs : List Edge) (more : Result Bool Fault) (old new : Option (List ℕ)) (now mid : Stage) (r : Result Printed Fault) (n : ℕ) → s.from ≤ s.to → mid.stretch ≡ s → n ≤ length fs → mid.judged ≡ s.to
+pub ends_then : (s : Stretch) (b : State) (es fs : List Edge) (more : Result Bool Fault) (old new : Option (List ℕ)) (now mid : Stage) (r : Result Printed Fault) (n : ℕ) → s.from ≤ s.to → mid.stretch
+    ≡ s → n ≤ length fs → mid.judged ≡ s.to
     → IsShown b (es ++ take n fs) mid → ((c : State) (gs : List Edge) → IsShown c gs mid → EndsStretch mid.stretch c gs old new r) → Ends s b (es ++ fs) more old new now (answered r)
 ends_then s b es fs more old new now mid r n order same few last shown ends =
     let all = length-append es (take n fs) in

@@ -64,21 +64,25 @@ module _ (p : Plan) (v : Version) (all : List ℕ) (s : Streams) (es : List Edge
       ∙ status_by (read_of all).version begins.version (take r.to (read_of all).edges)
 
   -- by what the last read answered
-  through_by : (more : Result Bool Fault) → Came v all s.from s.to es more → (r.to ≤ length es) ⊎ (more ≡ Ok false) → ((r.to ≤ length es) ⊎ ((read_of all).edges ≡ es)) × IsShownOut r.to (read_of all) s
+  through_by : (more : Result Bool Fault) → Came v all s.from s.to es more → (r.to ≤ length es) ⊎ (more ≡ Ok false) → ((r.to ≤ length es) ⊎ ((read_of all).edges ≡ es))
+      × IsShownOut r.to (read_of all) s
   through_by more came (inl few) = (inl few, inl (let more_of = long in omega (arith, few, more_of)))
   through_by more came (inr end) = let c : Came v all s.from s.to es (Ok false) = subst (Came v all s.from s.to es) end came in (inr c.1, inr (c.2, c.3))
 
-  stops : (W : List ℕ → Type 0) (f : Fault) (more : Result Bool Fault) → Came v all s.from s.to es more → more ≡ Err f → length es < r.to → W (stretch_text r (bench p v) es) → StopsShowing r.color r.from r.to p all s W f
+  stops : (W : List ℕ → Type 0) (f : Fault) (more : Result Bool Fault) → Came v all s.from s.to es more → more ≡ Err f → length es < r.to → W (stretch_text r (bench p v) es)
+      → StopsShowing r.color r.from r.to p all s W f
   stops W f more came at low wrote =
       let c : Came v all s.from s.to es (Err f) = subst (Came v all s.from s.to es) at came in
       stops_waiting (λ w l. (length l < r.to) × W (shown_text r.color r.from r.to p w l)) v all s es begins (low, wrote) f c.1
 
-  cut : (more : Result Bool Fault) → Came v all s.from s.to es more → IsEnd r.to es more → AppendsFront s.old s.new (stretch_text r (bench p v) es) → (g : Fault) → g ≡ Write → Shows r.from r.to r.color p all s (Err (fault.Trace g))
+  cut : (more : Result Bool Fault) → Came v all s.from s.to es more → IsEnd r.to es more → AppendsFront s.old s.new (stretch_text r (bench p v) es) → (g : Fault) → g ≡ Write
+      → Shows r.from r.to r.color p all s (Err (fault.Trace g))
   cut more came (inl few) wrote g write = let t = through_by more came (inl few) in inr (inl (write, t.1, subst (AppendsFront s.old s.new) (text_whole t.0) wrote))
   cut more came (inr (inl end)) wrote g write = let t = through_by more came (inr end) in inr (inl (write, t.1, subst (AppendsFront s.old s.new) (text_whole t.0) wrote))
   cut more came (inr (inr at)) wrote g write = inr (inr (write, at.0, stops (AppendsFront s.old s.new) at.0 more came at.1 at.2 wrote))
 
-  shows_so : (more : Result Bool Fault) (now : Stage) (answer : Result Printed Fault) → Came v all s.from s.to es more → Ends r (bench p v) es more s.old s.new now (answered answer) → Shows r.from r.to r.color p all s (printed_answer answer)
+  shows_so : (more : Result Bool Fault) (now : Stage) (answer : Result Printed Fault) → Came v all s.from s.to es more → Ends r (bench p v) es more s.old s.new now (answered answer)
+      → Shows r.from r.to r.color p all s (printed_answer answer)
   shows_so more now (Ok (Block status)) came h =
       let t = through_by more came h.1 in ((let reached = h.0 in let more_of = long in omega (arith, reached, more_of)), t.1, subst (Appends s.old s.new) (text_whole t.0) h.2, h.3 ∙ status_whole t.0)
   shows_so more now (Ok (Beyond n)) came h =
@@ -89,11 +93,14 @@ module _ (p : Plan) (v : Version) (all : List ℕ) (s : Streams) (es : List Edge
   ]
 
 -- What a piece leaves, or how far it came.
-pub shows_takes : (p : Plan) (v : Version) (r : Stretch) (es : List Edge) (more : Result Bool Fault) (old at new : Option (List ℕ)) (now : Stage) (answer : Result (Option Printed) Fault) → IsStretch r → Keeps old at → now.stretch ≡ r
+pub shows_takes : (p : Plan) (v : Version) (r : Stretch) (es : List Edge) (more : Result Bool Fault) (old at new : Option (List ℕ)) (now : Stage) (answer : Result (Option Printed) Fault) → IsStretch r
+    → Keeps old at → now.stretch ≡ r
     → Ends r (bench p v) es more at new now answer
-    → Takes (λ fs x y (s : Stage). (s.stretch ≡ r) × IsStretch r × Keeps x y × (length fs < r.to) × IsShown (bench p v) fs s) (λ trace s a. Shows r.from r.to r.color p trace s (printed_answer a)) v es more old new now answer
+    → Takes (λ fs x y (s : Stage). (s.stretch ≡ r) × IsStretch r × Keeps x y × (length fs < r.to) × IsShown (bench p v) fs s) (λ trace s a. Shows r.from r.to r.color p trace s (printed_answer a)) v
+    es more old new now answer
 shows_takes p v r es more old at new now (Ok None) is keeps same h = (same, is, Keeps-trans old at new keeps h.0, h.1, h.2)
 shows_takes p v r es more old at new now (Ok (Some printed)) is keeps same h = λ trace from to came.
-    shows_so p v trace (streams from to old new) es (came_begins v trace from to es more came) r is more now (Ok printed) came (ends_behind r (bench p v) es more old at new now (Ok (Some printed)) keeps h)
+    shows_so p v trace (streams from to old new) es (came_begins v trace from to es more came) r is more now (Ok printed) came
+    (ends_behind r (bench p v) es more old at new now (Ok (Some printed)) keeps h)
 shows_takes p v r es more old at new now (Err f) is keeps same h = λ trace from to came.
     shows_so p v trace (streams from to old new) es (came_begins v trace from to es more came) r is more now (Err f) came (ends_behind r (bench p v) es more old at new now (Err f) keeps h)

@@ -49,10 +49,12 @@ module _ {X : Type 0} (text : X → List ℕ) where
       → AppendsFront a c (flat_map text xs)
   writes_front a b c xs i d h before here =
       subst (AppendsFront a c) (sym (texts_from xs i d h))
-      (front_behind a b c (flat_map text (take i xs)) (text (get_or xs i d) ++ flat_map text (drop (i + 1) xs)) before (front_of_more b c (text (get_or xs i d)) (flat_map text (drop (i + 1) xs)) here))
+      (front_behind a b c (flat_map text (take i xs)) (text (get_or xs i d) ++ flat_map text (drop (i + 1) xs)) before
+      (front_of_more b c (text (get_or xs i d)) (flat_map text (drop (i + 1) xs)) here))
 
   -- there was nothing to write
-  pub writes_none : (a b : Option (List ℕ)) (xs : List X) (i : ℕ) (d : X) → i < length xs → Appends a b (flat_map text (take i xs)) → [] ≡ text (get_or xs i d) → Appends a b (flat_map text (take (i + 1) xs))
+  pub writes_none : (a b : Option (List ℕ)) (xs : List X) (i : ℕ) (d : X) → i < length xs → Appends a b (flat_map text (take i xs)) → [] ≡ text (get_or xs i d)
+      → Appends a b (flat_map text (take (i + 1) xs))
   writes_none a b xs i d h before none = subst (Appends a b) (sym (text_more xs i d h ∙ ap (λ l. flat_map text (take i xs) ++ l) (sym none) ∙ append-nil (flat_map text (take i xs)))) before
 
 -- the text of what passes a test
@@ -63,7 +65,8 @@ pub all_passing : {X : Type 0} (test : X → Bool) (text : X → List ℕ) (xs :
 all_passing test text [] = refl
 all_passing test text (x ∷ xs) = by_test (test x) (all_passing test text xs)
   where
-    by_test : (t : Bool) → flat_map (passing test text) xs ≡ flat_map text (filter test xs) → (if t then text x else []) ++ flat_map (passing test text) xs ≡ flat_map text (if t then x ∷ filter test xs else filter test xs)
+    by_test : (t : Bool) → flat_map (passing test text) xs ≡ flat_map text (filter test xs) → (if t then text x else []) ++ flat_map (passing test text) xs
+        ≡ flat_map text (if t then x ∷ filter test xs else filter test xs)
     by_test true rest = ap (λ l. text x ++ l) rest
     by_test false rest = rest
 
@@ -141,7 +144,8 @@ module _ (color : Bool) (b : State) (es : List Edge) where
       ≡ flat_map (wire_row color (columns b es)) (filter (is_drawn (columns b es)) ws)
   rows_are [] = refl
   rows_are ((d, w) ∷ ws) =
-      row_more (wire_line color (map column_of (columns b es))) (wire_row color (columns b es)) (before b (d, w)) (d, w) (filter (is_moved (map column_of (columns b es))) (map (before b) ws)) (filter (is_drawn (columns b es)) ws)
+      row_more (wire_line color (map column_of (columns b es))) (wire_row color (columns b es)) (before b (d, w)) (d, w) (filter (is_moved (map column_of (columns b es))) (map (before b) ws))
+      (filter (is_drawn (columns b es)) ws)
       (is_moved (map column_of (columns b es)) (before b (d, w))) (is_drawn (columns b es) (d, w)) (is_drawn_of d w (columns b es)) (ap (row color (wire_name d w)) (marks_are d w b es)) (rows_are ws)
 
   topic_row : (t : Topic) → topic_line color (map column_of (columns b es)) t ≡ row color (topic_name t) (map (topic_mark t) (columns b es))
@@ -153,12 +157,14 @@ four a p q r s = simp (append_assoc, append-nil)
 -- what a window draws, by what it keeps
 abbrev text_by : Bool → ℕ → List PlanWire → List Column → List ℕ
 text_by color first ws cs =
-    ((title first (length cs) ++ tens_line first (length cs) ++ numbers_line ones first (length cs)) ++ flat_map (wire_line color cs) (filter (is_moved cs) ws)) ++ flat_map (topic_line color cs) topics
+    ((title first (length cs) ++ tens_line first (length cs) ++ numbers_line ones first (length cs)) ++ flat_map (wire_line color cs) (filter (is_moved cs) ws))
+    ++ flat_map (topic_line color cs) topics
 
 abbrev head_by : ℕ → ℕ → List ℕ
 head_by first n = title first n ++ tens_line first n ++ numbers_line ones first n
 
-topics_are : (color : Bool) (b : State) (es : List Edge) → flat_map (topic_line color (map column_of (columns b es))) topics ≡ flat_map (λ t. row color (topic_name t) (map (topic_mark t) (columns b es))) topics
+topics_are : (color : Bool) (b : State) (es : List Edge) → flat_map (topic_line color (map column_of (columns b es))) topics
+    ≡ flat_map (λ t. row color (topic_name t) (map (topic_mark t) (columns b es))) topics
 topics_are color b es = four_same (topic_line color (map column_of (columns b es))) (λ t. row color (topic_name t) (map (topic_mark t) (columns b es))) (topic_row color b es) topics
   where
     four_same : (f g : Topic → List ℕ) → ((t : Topic) → f t ≡ g t) → (ts : List Topic) → flat_map f ts ≡ flat_map g ts
@@ -168,7 +174,8 @@ topics_are color b es = four_same (topic_line color (map column_of (columns b es
 drawn_is : (color : Bool) (first : ℕ) (b : State) (es : List Edge) → text_by color first (plan_wires_in b) (map column_of (columns b es)) ≡ drawn color first b.plan (columns b es)
 drawn_is color first b es =
     let cs = columns b es in
-    ap (λ n. (head_by first n ++ flat_map (wire_line color (map column_of cs)) (filter (is_moved (map column_of cs)) (plan_wires_in b))) ++ flat_map (topic_line color (map column_of cs)) topics) (length-map cs column_of)
+    ap (λ n. (head_by first n ++ flat_map (wire_line color (map column_of cs)) (filter (is_moved (map column_of cs)) (plan_wires_in b))) ++ flat_map (topic_line color (map column_of cs)) topics)
+    (length-map cs column_of)
     ∙ ap (λ l. (head_by first (length cs) ++ l) ++ flat_map (topic_line color (map column_of cs)) topics)
     (ap (λ l. flat_map (wire_line color (map column_of cs)) (filter (is_moved (map column_of cs)) l)) (all_before b (drivers b.plan)) ∙ rows_are color b es (plan_wires b.plan))
     ∙ ap (λ l. (head_by first (length cs) ++ flat_map (wire_row color cs) (rows b.plan cs)) ++ l) (topics_are color b es)
@@ -178,7 +185,8 @@ some_edge : (color : Bool) (first : ℕ) (b : State) (es : List Edge) (n : ℕ) 
 some_edge color first b [] n is some = absurd (omega arith)
 some_edge color first b (e ∷ es) n is some = refl
 
-pub picture_is : (color : Bool) (first : ℕ) (b : State) (es : List Edge) (w : Seen) → IsWindowOf b first es w → 0 < length w.columns → (head_text w ++ wires_text color w) ++ topics_text color w ≡ picture color first b es
+pub picture_is : (color : Bool) (first : ℕ) (b : State) (es : List Edge) (w : Seen) → IsWindowOf b first es w → 0 < length w.columns → (head_text w ++ wires_text color w) ++ topics_text color w
+    ≡ picture color first b es
 picture_is color first b es w h some =
     ap (λ n. text_by color n w.wires w.columns) h.first_is
     ∙ ap (λ (ws : List PlanWire). text_by color first ws w.columns) h.wires_are

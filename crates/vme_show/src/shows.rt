@@ -27,11 +27,12 @@ use vme_model::Edge;
 use vme_reading::{EngineFault, Judge, Status, read};
 use vme_trace::{Fault, flush};
 
-/// How many of `len` edges after the first `judged` are among the first `n`.
-fn count_up_to(n: u64, judged: u64, len: usize) -> usize
-    ensures { result ≡ min (n - judged) len }
+/// How many of the next `len` edges of a trace, of which `judged` came before, have a number of at
+/// most `last`.
+fn numbered_within(last: u64, judged: u64, len: usize) -> usize
+    ensures { result ≡ min (last - judged) len }
 {
-    n.saturating_sub(judged).min(len as u64) as usize
+    last.saturating_sub(judged).min(len as u64) as usize
 }
 
 /// Which edges of a trace are shown, by their numbers, and whether in color.
@@ -139,7 +140,7 @@ impl Showing {
         ensures shown { (b : State) (es : List EdgeValue)
             → IsShown b es self.old → IsShown b (es ++ edges.now) self.new }
     {
-        let before = count_up_to(self.stretch.from - 1, self.judged, edges.len());
+        let before = numbered_within(self.stretch.from - 1, self.judged, edges.len());
         self.skip(&edges[..before]);
         self.keep_all(&edges[before..]);
     }
@@ -202,7 +203,7 @@ impl Showing {
             → Ends self.old.stretch b (es ++ edges.now) more
             (W.contents out.old) (W.contents out.new) self.new result }
     {
-        let count = count_up_to(self.stretch.to, self.judged, edges.len());
+        let count = numbered_within(self.stretch.to, self.judged, edges.len());
         self.take_in(&edges[..count]);
         if self.judged == self.stretch.to {
             return Ok(Some(self.end(out)?));

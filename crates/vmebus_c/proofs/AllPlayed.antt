@@ -80,7 +80,8 @@ module _ (b : State) (e : Edge) (ok : verdict b e ≡ Ok tt) where
   exists = and_right (has_wire e.driver e.wire && has_value e.wire e.fall e.value) (has_driver b.plan e.driver e.wire) (checked _ NoSuchDriver _ ok).0
 
   has : has_wire e.driver e.wire ≡ true
-  has = and_left (has_wire e.driver e.wire) (has_value e.wire e.fall e.value) (and_left (has_wire e.driver e.wire && has_value e.wire e.fall e.value) (has_driver b.plan e.driver e.wire) (checked _ NoSuchDriver _ ok).0)
+  has = and_left (has_wire e.driver e.wire) (has_value e.wire e.fall e.value) (and_left (has_wire e.driver e.wire && has_value e.wire e.fall e.value) (has_driver b.plan e.driver e.wire)
+      (checked _ NoSuchDriver _ ok).0)
 
 -- ---- the slots beyond those of the plan have no board
 

@@ -54,7 +54,8 @@ module _ (next : DrawsTheWalk) (on : FollowOn) (allowed : EachIsOpen) (one : One
       ∙ ap (stepped_by version p es) (none_of_none one some (d n) (has_board p))
 
   -- one draw and step
-  module _ (w : Walk) (h : ℕ → List Edge) (d : ℕ → Draws) (accepted : IsAccepted w.state.plan) (at : GoesOn w wires h d) (room : length w.state.history < w.state.max) (most : w.state.max ≤ 1048576) where
+  module _ (w : Walk) (h : ℕ → List Edge) (d : ℕ → Draws) (accepted : IsAccepted w.state.plan) (at : GoesOn w wires h d) (room : length w.state.history < w.state.max)
+      (most : w.state.max ≤ 1048576) where
     abbrev drawn_on : List Edge → Option Edge
     drawn_on x = drawn_edge w.state.version w.state.plan x wires (d 0)
 

@@ -17,7 +17,8 @@ returns-in-Ok-clause-outcome g c =
     let ends : c.in-Ok.ending ≡ (walk p v w.seed c.args.edges c.args.until).ending = c.in-Ok.ensures.ending ∙ ap (λ (x : Walk). (walk_to c.args.until c.args.edges x).ending) c.requires in
     draws_done p v w.seed c.args.edges c.args.until c.bus-bus.result.now c.in-Ok.ending is ends c.laws.ensures.legal c.laws.ensures.accepted
     (omega (arith, c.laws.ensures.fits, c.laws.ensures.bounded)) _ _ _
-    (subst (λ (x : Walk). Appends (g.W.Write.contents c.args.out.now) (g.W.Write.contents c.write_walk.new.out) (ended_text x.state.version (walk_to c.args.until c.args.edges x))) c.requires c.in-Ok.ensures.ok)
+    (subst (λ (x : Walk). Appends (g.W.Write.contents c.args.out.now) (g.W.Write.contents c.write_walk.new.out) (ended_text x.state.version (walk_to c.args.until c.args.edges x)))
+    c.requires c.in-Ok.ensures.ok)
     (c.status_to.ensures ∙ ap (λ n. status_to c.args.until c.args.edges n c.in-Ok.ending) c.len.ensures)
 
 pub returns-in-Ok-clause-safe : goal.returns-in-Ok-clause-safe
@@ -33,5 +34,6 @@ returns-in-Ok-clause-safe g c =
 pub returns-in-Err-clause-outcome : goal.returns-in-Err-clause-outcome
 returns-in-Err-clause-outcome g c = (
   c.in-Err.ensures.fault,
-  subst (λ (x : Walk). AppendsFront (g.W.Write.contents c.args.out.now) (g.W.Write.contents c.write_walk.new.out) (ended_text x.state.version (walk_to c.args.until c.args.edges x))) c.requires c.in-Err.ensures.front,
+  subst (λ (x : Walk). AppendsFront (g.W.Write.contents c.args.out.now) (g.W.Write.contents c.write_walk.new.out) (ended_text x.state.version (walk_to c.args.until c.args.edges x)))
+      c.requires c.in-Err.ensures.front,
 )

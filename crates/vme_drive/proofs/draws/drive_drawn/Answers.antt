@@ -7,4 +7,5 @@ returns-clause-outcome g c =
 
 pub returns-clause-safe : goal.returns-clause-safe
 returns-clause-safe g c =
-    drawn_safely _ _ c.in_ok-plan.ensures.ok.0 c.in_ok-plan.ensures.ok.1 c.args.version c.args.edges (g.W.Write.contents c.args.out.now) (g.W.Write.contents c.draw_on.new.out) c.args.seed c.args.until _ c.draw_on.ensures.safe
+    drawn_safely _ _ c.in_ok-plan.ensures.ok.0 c.in_ok-plan.ensures.ok.1 c.args.version c.args.edges (g.W.Write.contents c.args.out.now) (g.W.Write.contents c.draw_on.new.out) c.args.seed
+    c.args.until _ c.draw_on.ensures.safe

@@ -23,7 +23,8 @@ returns-in_err-put_line-in-Some g c =
     subst (λ (w : Walk). IsBefore c.loop-made.walk.state w.state) (sym c.loop-made.invariant.rest) (before_walked (c.args.edges - c.loop-made._made) c.loop-made.walk) in
     rw (e.1, e.2) (
       c.in_err-put_line-in-Some.ensures.fault,
-      λ first listed. edge_cut c.loop-made.walk.state (walked c.args.edges c.args.walk.now).state _ _ _ within c.in_err-put_line-in-Some.ensures.front first (c.loop-made.invariant.listed first listed),
+      λ first listed. edge_cut c.loop-made.walk.state (walked c.args.edges c.args.walk.now).state _ _ _ within c.in_err-put_line-in-Some.ensures.front first
+          (c.loop-made.invariant.listed first listed),
     )
 
 pub returns-in-None : goal.returns-in-None
@@ -33,7 +34,8 @@ returns-in-None g c =
       ap (λ (w : Walk). w.state)
           (walk_ends more c.loop-made.walk c.draw.new.self c.draw.ensures.state (sym c.in-None.is ∙ c.draw.ensures.edge)
           ∙ ap (λ n. walked n c.loop-made.walk) (sym one_less) ∙ sym c.loop-made.invariant.rest),
-      λ first listed. subst (λ (w : Walk). IsListed first (g.W.Write.contents c.loop-made.out) c.loop-made.text (lines_made w.state)) (sym c.draw.ensures.state) (c.loop-made.invariant.listed first listed),
+      λ first listed. subst (λ (w : Walk). IsListed first (g.W.Write.contents c.loop-made.out) c.loop-made.text (lines_made w.state)) (sym c.draw.ensures.state)
+          (c.loop-made.invariant.listed first listed),
     )
 
 pub loop-made-preserved : goal.loop-made-preserved

@@ -18,7 +18,9 @@ returns-in_err-write-clause-outcome g c =
 pub returns-clause-outcome : goal.returns-clause-outcome
 returns-clause-outcome g c =
     drives_done c.args.plan c.args.version c.args.edges c.write.new.self.bus
-    (c.in_ok-write.ensures.state ∙ ap (λ (b : State). rounds b c.args.edges) (c.new-drive.ensures.bus ∙ c.new.ensures)) _ _ _ (subst (λ (b : State). Appends (g.W.Write.contents c.args.out.now) (g.W.Write.contents c.write.new.out) (trace_made b)) (sym c.in_ok-write.ensures.state) c.in_ok-write.ensures.ok) c.laws.ensures.legal c.laws.ensures.accepted
+    (c.in_ok-write.ensures.state ∙ ap (λ (b : State). rounds b c.args.edges) (c.new-drive.ensures.bus ∙ c.new.ensures)) _ _ _
+    (subst (λ (b : State). Appends (g.W.Write.contents c.args.out.now) (g.W.Write.contents c.write.new.out) (trace_made b)) (sym c.in_ok-write.ensures.state) c.in_ok-write.ensures.ok)
+    c.laws.ensures.legal c.laws.ensures.accepted
     (omega (arith, c.laws.ensures.fits, c.laws.ensures.bounded))
     (c.status_of.ensures ∙ ap (λ n. if n == c.args.edges then Limit else Done) c.len.ensures)
 

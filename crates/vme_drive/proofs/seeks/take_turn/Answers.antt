@@ -12,7 +12,8 @@ returns-in_err-put_line-in-Some-draw-clause-listed g c =
     let e = err_from_is_err_and c.from_residual.result c.from_residual.ensures.1 in
     rw (e.1, e.2) (
       c.in_err-put_line-in-Some-draw.ensures.fault,
-      λ first listed. edge_cut c.args.walk.now.state (turned c.args.goal c.args.walk.now).state _ _ _ (before_turned c.args.goal c.args.walk.now) c.in_err-put_line-in-Some-draw.ensures.front first listed,
+      λ first listed. edge_cut c.args.walk.now.state (turned c.args.goal c.args.walk.now).state _ _ _ (before_turned c.args.goal c.args.walk.now)
+          c.in_err-put_line-in-Some-draw.ensures.front first listed,
     )
 
 pub returns-then-has_come-clause-listed : goal.returns-then-has_come-clause-listed

@@ -27,7 +27,8 @@ returns-in_err-write g c =
     let s = streams (g.R.Read.remaining c.args.moments.now) (g.R.Read.remaining c.read_moments.new.input) (g.W.Write.contents c.args.out.now) (g.W.Write.contents c.write.new.out) in
     rw (e.1, e.2)
     (cut_off c.args.form c.args.slacks.now c.args.plan c.requires s read.0 read.1 moments read.3 found.order.items found.next.items
-    (found_in moments.version c.args.plan c.args.slacks.now moments.seen.items c.deref.result.now found.order.items found.next.items c.deref.ensures.value c.in_ok-found.ensures.longest c.in_ok-found.ensures.next)
+    (found_in moments.version c.args.plan c.args.slacks.now moments.seen.items c.deref.result.now found.order.items found.next.items c.deref.ensures.value c.in_ok-found.ensures.longest
+    c.in_ok-found.ensures.next)
     c.in_err-write.field-0.0 c.in_err-write.ensures.fault c.in_err-write.ensures.front)
 
 pub returns : goal.returns
@@ -37,5 +38,6 @@ returns g c =
     let found = c.in_ok-found.found in
     let s = streams (g.R.Read.remaining c.args.moments.now) (g.R.Read.remaining c.read_moments.new.input) (g.W.Write.contents c.args.out.now) (g.W.Write.contents c.write.new.out) in
     written c.args.form c.args.slacks.now c.args.plan c.requires s read.0 read.1 moments read.3 found.order.items found.next.items
-    (found_in moments.version c.args.plan c.args.slacks.now moments.seen.items c.deref.result.now found.order.items found.next.items c.deref.ensures.value c.in_ok-found.ensures.longest c.in_ok-found.ensures.next)
+    (found_in moments.version c.args.plan c.args.slacks.now moments.seen.items c.deref.result.now found.order.items found.next.items c.deref.ensures.value c.in_ok-found.ensures.longest
+    c.in_ok-found.ensures.next)
     c.status_of.result read.2 c.in_ok-write.ensures.ok c.status_of.ensures

@@ -25,7 +25,8 @@ reads-init g c =
     let all : c.args.reads ≡ c.args.reads - 0 = omega arith in
     let sum : 0 + length c.args.edges.now.items ≡ length c.args.edges.now.items = omega arith in
     let on = went_on _ _ _ _ c.in-None.is c.in_ok-answer.ensures.goes_on in
-    let count : g.J.Judge.count c.take.new.self ≡ length c.args.edges.now.items = on.1 ∙ ap (λ n. n + length c.deref.result.now) c.requires.begun ∙ ap (λ l. 0 + length l) c.deref.ensures.value ∙ sum in
+    let count : g.J.Judge.count c.take.new.self ≡ length c.args.edges.now.items = on.1 ∙ ap (λ n. n + length c.deref.result.now) c.requires.begun ∙ ap (λ l. 0 + length l)
+    c.deref.ensures.value ∙ sum in
     record {
       counted = subst (λ (n : ℕ). IsCounted c.args.reader.now n (g.J.Judge.count c.take.new.self)) all (rw count (c.requires.counted on.0));
       under_way = λ task p v from head begun known came_first.
@@ -56,7 +57,8 @@ returns-in_err-answer-2 g c =
     let h = rw (c.clear.ensures.items, size) at (c.pump_counted-more.ensures.reads (head ++ r.reading.later) r.es r.reading.read) in
     let next = came head from _ _ _ _ _ r.es _ r.reading c.pump_counted-more.result.0 h in
     let stays = stays_known head from _ _ _ _ _ r.es _ r.reading v r.known c.pump_counted-more.result.0 h in
-    let took = took_err (g.J.Judge.stands task p v) (g.J.Judge.leaves task p) v _ _ _ _ _ c.take-in-reads.new.self (ap (λ l. r.es ++ l) c.deref-in-reads.ensures.value) _ (c.in_err-answer-2.ensures.takes task p v r.es _ r.stands_so) in
+    let took = took_err (g.J.Judge.stands task p v) (g.J.Judge.leaves task p) v _ _ _ _ _ c.take-in-reads.new.self (ap (λ l. r.es ++ l) c.deref-in-reads.ensures.value) _
+    (c.in_err-answer-2.ensures.takes task p v r.es _ r.stands_so) in
     rw (e.1, e.2) (leaves_so v head from _ _ _ (c.args.reads - (c.reads.counter + 1)) _ (r.es ++ _) stays (g.J.Judge.leaves task p) _ (Err _) next took)
 
 pub returns-in-Some-2 : goal.returns-in-Some-2
@@ -68,7 +70,8 @@ returns-in-Some-2 g c =
     let h = rw (c.clear.ensures.items, size) at (c.pump_counted-more.ensures.reads (head ++ r.reading.later) r.es r.reading.read) in
     let next = came head from _ _ _ _ _ r.es _ r.reading c.pump_counted-more.result.0 h in
     let stays = stays_known head from _ _ _ _ _ r.es _ r.reading v r.known c.pump_counted-more.result.0 h in
-    let took = took_some (g.J.Judge.stands task p v) (g.J.Judge.leaves task p) v _ _ _ _ _ _ (ap (λ l. r.es ++ l) c.deref-in-reads.ensures.value) _ _ c.in-Some-2.is (c.in_ok-answer-2.ensures.takes task p v r.es _ r.stands_so) in
+    let took = took_some (g.J.Judge.stands task p v) (g.J.Judge.leaves task p) v _ _ _ _ _ _ (ap (λ l. r.es ++ l) c.deref-in-reads.ensures.value) _ _ c.in-Some-2.is
+    (c.in_ok-answer-2.ensures.takes task p v r.es _ r.stands_so) in
     leaves_so v head from _ _ _ (c.args.reads - (c.reads.counter + 1)) _ (r.es ++ _) stays (g.J.Judge.leaves task p) _ (Ok _) next took
 
 pub reads-preserved : goal.reads-preserved
@@ -86,7 +89,8 @@ reads-preserved g c =
           let h = rw (c.clear.ensures.items, size) at (c.pump_counted-more.ensures.reads (head ++ r.reading.later) r.es r.reading.read) in
           let next = came head from _ _ _ _ _ r.es _ r.reading c.pump_counted-more.result.0 h in
           let stays = stays_known head from _ _ _ _ _ r.es _ r.reading v r.known c.pump_counted-more.result.0 h in
-          let took = took_none (g.J.Judge.stands task p v) (g.J.Judge.leaves task p) v _ _ _ _ _ _ (ap (λ l. r.es ++ l) c.deref-in-reads.ensures.value) _ c.in-None-2.is (c.in_ok-answer-2.ensures.takes task p v r.es _ r.stands_so) in
+          let took = took_none (g.J.Judge.stands task p v) (g.J.Judge.leaves task p) v _ _ _ _ _ _ (ap (λ l. r.es ++ l) c.deref-in-reads.ensures.value) _ c.in-None-2.is
+          (c.in_ok-answer-2.ensures.takes task p v r.es _ r.stands_so) in
           under_way v head from _ _ _ (c.args.reads - (c.reads.counter + 1)) _ (r.es ++ _) stays (g.J.Judge.stands task p v) _ _ on.0 next took;
     }
 
@@ -100,14 +104,16 @@ returns-in_err-answer-3 g c =
     λ task p v begun from head known came_first.
     let e = err_from_is_err_and c.from_residual-in_err-answer-3.result c.from_residual-in_err-answer-3.ensures.1 in
     let r = c.reads.invariant.under_way task p v from head begun known came_first in
-    let took = took_err (g.J.Judge.stands task p v) (g.J.Judge.leaves task p) v _ _ (Err Read) _ _ c.take-2.new.self (append-nil r.es) _ (c.in_err-answer-3.ensures.takes task p v r.es _ r.stands_so) in
+    let took = took_err (g.J.Judge.stands task p v) (g.J.Judge.leaves task p) v _ _ (Err Read) _ _ c.take-2.new.self (append-nil r.es) _ (c.in_err-answer-3.ensures.takes task p v r.es _ r.stands_so)
+    in
     rw (e.1, e.2) (leaves_unread v head from _ _ _ (c.args.reads - c.reads.counter) c.reads.reader r.es r.known (g.J.Judge.leaves task p) (Err c.in_err-answer-3.field-0.0) r.reading took)
 
 pub returns-in-Some-3 : goal.returns-in-Some-3
 returns-in-Some-3 g c =
     λ task p v begun from head known came_first.
     let r = c.reads.invariant.under_way task p v from head begun known came_first in
-    let took = took_some (g.J.Judge.stands task p v) (g.J.Judge.leaves task p) v _ _ (Err Read) _ _ _ (append-nil r.es) _ _ c.in-Some-3.is (c.in_ok-answer-3.ensures.takes task p v r.es _ r.stands_so) in
+    let took = took_some (g.J.Judge.stands task p v) (g.J.Judge.leaves task p) v _ _ (Err Read) _ _ _ (append-nil r.es) _ _ c.in-Some-3.is (c.in_ok-answer-3.ensures.takes task p v r.es _ r.stands_so)
+    in
     leaves_unread v head from _ _ _ (c.args.reads - c.reads.counter) c.reads.reader r.es r.known (g.J.Judge.leaves task p) (Ok c.in-Some-3.answer) r.reading took
 
 pub returns-in-None-3 : goal.returns-in-None-3

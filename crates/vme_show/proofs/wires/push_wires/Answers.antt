@@ -27,7 +27,8 @@ loop-wire-preserved c =
     elim c.if-has_driver.branch [
       | then-has_driver s ↦ record {
         items = next_grown f (has_driver b.plan d) ws i (Bg 0) c.args.found.now.items c.loop-wire.found.items c.if-has_driver.found.items c.loop-wire-test.true c.loop-wire.invariant.items
-            (passed_more f (has_driver b.plan d) w c.loop-wire.found.items c.if-has_driver.found.items (seen d w s.is_low.result) (sym c.has_driver.ensures.has ∙ s.if-has_driver.true) (ap (seen d w) s.is_low.ensures.low)
+            (passed_more f (has_driver b.plan d) w c.loop-wire.found.items c.if-has_driver.found.items (seen d w s.is_low.result) (sym c.has_driver.ensures.has ∙ s.if-has_driver.true)
+            (ap (seen d w) s.is_low.ensures.low)
             (ap (λ v. v.items) s.found-is ∙ s.push.ensures.items));
         len = let was = c.loop-wire.invariant.len in let now = s.push.ensures.len in let same = ap (λ v. length v.items) s.found-is in omega (arith, was, now, same);
       }

@@ -13,7 +13,8 @@ pub returns-in-Ok-false-clause-takes : goal.returns-in-Ok-false-clause-takes
 returns-in-Ok-false-clause-takes g c =
     λ task p v es old h.
     let run = all_accepted p v es c.args.edges.now _ _ h _ _ (sym c.in-None.is ∙ c.first_refused.ensures.found) (c.first_refused.ensures.state c.in-None.is) refl in
-    finds_legal p v (es ++ _) _ old (g.W.Write.contents c.args._out.now) _ _ run (c.in-Ok-false.is ∙ ap (λ b. Ok b) c.in-Ok-false.field-0-test) c.laws.ensures.legal c.safety.ensures.safe c.laws.ensures.fits
+    finds_legal p v (es ++ _) _ old (g.W.Write.contents c.args._out.now) _ _ run (c.in-Ok-false.is ∙ ap (λ b. Ok b) c.in-Ok-false.field-0-test) c.laws.ensures.legal
+    c.safety.ensures.safe c.laws.ensures.fits
 
 pub returns-in-Err-clause-takes : goal.returns-in-Err-clause-takes
 returns-in-Err-clause-takes g c =

@@ -19,7 +19,8 @@ returns-in_err-write_place-in-Ok-false-None-clause-takes g c =
     λ place p v es old h.
     let e = err_from_is_err_and c.from_residual-in_err-write_place-in-Ok-false-None.result c.from_residual-in_err-write_place-in-Ok-false-None.ensures.1 in
     let is : c.args.more ≡ Ok false = search rules in
-    rw (e.1, e.2) (states_end_cut p v es _ _ old _ _ h.1 place _ h.0 _ _ h.3 _ c.in_err-write_place-in-Ok-false-None.ensures.fault c.in-Ok-false-None.is-1 is (c.in-None.ensures.2 p v es h.3) c.in_err-write_place-in-Ok-false-None.ensures.front)
+    rw (e.1, e.2) (states_end_cut p v es _ _ old _ _ h.1 place _ h.0 _ _ h.3 _ c.in_err-write_place-in-Ok-false-None.ensures.fault c.in-Ok-false-None.is-1 is (c.in-None.ensures.2 p v es h.3)
+    c.in_err-write_place-in-Ok-false-None.ensures.front)
 
 pub returns-in-Ok-true-default-clause-takes : goal.returns-in-Ok-true-default-clause-takes
 returns-in-Ok-true-default-clause-takes g c =
@@ -36,7 +37,8 @@ pub returns-in_ok-write_place-in-Ok-false-None-clause-takes : goal.returns-in_ok
 returns-in_ok-write_place-in-Ok-false-None-clause-takes g c =
     λ place p v es old h.
     let is : c.args.more ≡ Ok false = search rules in
-    rw c.in_ok-write_place-in-Ok-false-None.ensures.printed (states_end p v es _ _ old _ _ h.1 place _ h.0 _ _ h.3 c.in-Ok-false-None.is-1 is (c.in-None.ensures.2 p v es h.3) c.in_ok-write_place-in-Ok-false-None.ensures.ok)
+    rw c.in_ok-write_place-in-Ok-false-None.ensures.printed (states_end p v es _ _ old _ _ h.1 place _ h.0 _ _ h.3 c.in-Ok-false-None.is-1 is (c.in-None.ensures.2 p v es h.3)
+    c.in_ok-write_place-in-Ok-false-None.ensures.ok)
 
 pub returns-in-Err-default-clause-takes : goal.returns-in-Err-default-clause-takes
 returns-in-Err-default-clause-takes g c =

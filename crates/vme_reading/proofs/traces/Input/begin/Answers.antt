@@ -13,5 +13,6 @@ returns-in-Some-clause-ready g c = record {
 
 pub returns-in-Err-clause-unbegun : goal.returns-in-Err-clause-unbegun
 returns-in-Err-clause-unbegun g c =
-    let opens = subst (λ (a : Result Bool Fault). Opens (g.R.Read.remaining c.args.trace.now) (g.R.Read.remaining c.open-first.new.input) c.open-first.new.reader c.open-first.new.edges.items (a, c.open-first.result.1)) c.in-Err.is c.open-first.ensures in
+    let opens = subst (λ (a : Result Bool Fault). Opens (g.R.Read.remaining c.args.trace.now) (g.R.Read.remaining c.open-first.new.input) c.open-first.new.reader c.open-first.new.edges.items
+    (a, c.open-first.result.1)) c.in-Err.is c.open-first.ensures in
     unbegun _ _ _ _ c.open-first.result.1 (sym c.version.ensures ∙ c.in-None.is) c.in-Err.fault opens

@@ -17,6 +17,7 @@ loop-edge-preserved c =
       stretch = c.keep.ensures.stretch ∙ c.loop-edge.invariant.stretch;
       judged = let was = c.loop-edge.invariant.judged in let now = c.keep.ensures.judged in omega (arith, was, now);
       shown = λ b fs h.
-          subst (λ (l : List Edge). IsShown b l c.keep.new.self) (append_assoc fs (take i es) (get_or es i some_edge ∷ []) ∙ ap (λ (l : List Edge). fs ++ l) (sym (take_more es i some_edge c.loop-edge-test.true)))
+          subst (λ (l : List Edge). IsShown b l c.keep.new.self) (append_assoc fs (take i es) (get_or es i some_edge ∷ []) ∙ ap (λ (l : List Edge). fs ++ l)
+          (sym (take_more es i some_edge c.loop-edge-test.true)))
           (c.keep.ensures.shown b (fs ++ take i es) (c.loop-edge.invariant.shown b fs h));
     }

@@ -16,11 +16,13 @@ returns-in_err-write_wires-clause-front g c = on_err c.from_residual-in_err-writ
 pub returns-clause-ok : goal.returns-clause-ok
 returns-clause-ok g c =
     at_ok c.write_topics.result (Appends (g.W.Write.contents c.write_wires.new.out) (g.W.Write.contents c.write_topics.new.out) (topics_text c.args.color c.args.self.now)) _
-    (λ w b es is. whole c.args.color b es c.args.self.now is c.requires.some _ _ _ _ c.in_ok-write_head.ensures.ok (c.in_ok-write_wires.ensures.ok (has_words b c.args.self.now.first es c.args.self.now is)) w)
+    (λ w b es is. whole c.args.color b es c.args.self.now is c.requires.some _ _ _ _ c.in_ok-write_head.ensures.ok
+    (c.in_ok-write_wires.ensures.ok (has_words b c.args.self.now.first es c.args.self.now is)) w)
     c.write_topics.ensures.ok
 
 pub returns-clause-front : goal.returns-clause-front
 returns-clause-front g c =
     at_err c.write_topics.result (AppendsFront (g.W.Write.contents c.write_wires.new.out) (g.W.Write.contents c.write_topics.new.out) (topics_text c.args.color c.args.self.now)) _
-    (λ w b es is. topics_front c.args.color b es c.args.self.now is c.requires.some _ _ _ _ c.in_ok-write_head.ensures.ok (c.in_ok-write_wires.ensures.ok (has_words b c.args.self.now.first es c.args.self.now is)) w)
+    (λ w b es is. topics_front c.args.color b es c.args.self.now is c.requires.some _ _ _ _ c.in_ok-write_head.ensures.ok
+    (c.in_ok-write_wires.ensures.ok (has_words b c.args.self.now.first es c.args.self.now is)) w)
     c.write_topics.ensures.front

@@ -21,7 +21,8 @@ returns-in_err-put-clause-front g c =
     on_err c.from_residual.result _
     (writes_front text _ _ _ topics i GrantAt (omega arith) c.loop-topic.invariant
     (subst (λ (l : List ℕ). AppendsFront (g.W.Write.contents c.loop-topic.out) (g.W.Write.contents c.put.new.out) l)
-    (c.as_slice.ensures.value ∙ c.topic_line.ensures ∙ ap (λ (l : List Column). topic_line c.args.color l (get_or topics i GrantAt)) (c.as_slice-columns.ensures.value ∙ ap (λ (w : Seen). w.columns) c.self.view_is)) c.in_err-put.ensures.front))
+    (c.as_slice.ensures.value ∙ c.topic_line.ensures ∙ ap (λ (l : List Column). topic_line c.args.color l (get_or topics i GrantAt)) (c.as_slice-columns.ensures.value ∙ ap (λ (w : Seen). w.columns)
+    c.self.view_is)) c.in_err-put.ensures.front))
 
 pub loop-topic-preserved : goal.loop-topic-preserved
 loop-topic-preserved g c =
@@ -29,8 +30,10 @@ loop-topic-preserved g c =
     let text = topic_line c.args.color c.args.self.now.columns in
     writes_more text _ _ _ topics i GrantAt (omega arith) c.loop-topic.invariant
     (subst (λ (l : List ℕ). Appends (g.W.Write.contents c.loop-topic.out) (g.W.Write.contents c.put.new.out) l)
-    (c.as_slice.ensures.value ∙ c.topic_line.ensures ∙ ap (λ (l : List Column). topic_line c.args.color l (get_or topics i GrantAt)) (c.as_slice-columns.ensures.value ∙ ap (λ (w : Seen). w.columns) c.self.view_is)) c.in_ok-put.ensures.ok)
+    (c.as_slice.ensures.value ∙ c.topic_line.ensures ∙ ap (λ (l : List Column). topic_line c.args.color l (get_or topics i GrantAt)) (c.as_slice-columns.ensures.value ∙ ap (λ (w : Seen). w.columns)
+    c.self.view_is)) c.in_ok-put.ensures.ok)
 
 pub returns-clause-ok : goal.returns-clause-ok
 returns-clause-ok g c =
-    subst (λ (l : List ℕ). Appends (g.W.Write.contents c.args.out.now) (g.W.Write.contents c.loop-topic.out) l) (ap (flat_map (topic_line c.args.color c.args.self.now.columns)) (take_all c.loop-topic.topic-index topics (omega arith))) c.loop-topic.invariant
+    subst (λ (l : List ℕ). Appends (g.W.Write.contents c.args.out.now) (g.W.Write.contents c.loop-topic.out) l) (ap (flat_map (topic_line c.args.color c.args.self.now.columns))
+    (take_all c.loop-topic.topic-index topics (omega arith))) c.loop-topic.invariant
