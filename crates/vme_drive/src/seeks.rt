@@ -13,7 +13,7 @@ use vme_bus::Bus;
 use vme_events::{comes, miss};
 use vme_explain::Marks;
 use vme_goals::{Aim, Goal, Miss, counts};
-use vme_model::{Driver, Edge};
+use vme_model::Edge;
 use vme_seeds::Walk;
 use vme_text::Text;
 use vme_trace::Fault;
@@ -93,7 +93,7 @@ fn make(walk: &mut Walk, marks: &mut Marks, edge: Edge)
     ensures marks { IsMarksOf walk.new.state.plan (by_place walk.new.state.history) marks.new }
 {
     let bus = walk.bus();
-    let shown = bus.pins(Driver::Controller).shown;
+    let shown = bus.shown();
     let place = u64::from(bus.len()) + 1;
     marks.note(&edge, place, shown);
     walk.make(edge);
