@@ -76,40 +76,35 @@ impl BusState {
         // drops the later ones.
         if slot >= 22 {
             NO_DRIVER
-        } else if number < 4 {
-            if number < 1 {
-                by_direction!(
-                    self, step_controller, edge, Wire::Bg(edge.wire.grant_level()) => delivery
-                )
-            } else if number < 2 {
-                by_direction!(self, step_controller, edge, Wire::Bclr => delivery)
-            } else if number < 3 {
-                by_direction!(self, step_controller, edge, Wire::Iack => delivery)
-            } else {
-                by_direction!(self, step_controller, edge, Wire::Berr => delivery)
-            }
-        } else if number < 7 {
-            if number < 5 {
-                by_direction!(self, step_requester, edge, slot, Wire::Br => delivery)
-            } else if number < 6 {
-                by_direction!(self, step_requester, edge, slot, Wire::BgOut => delivery)
-            } else {
-                by_direction!(self, step_requester, edge, slot, Wire::Bbsy => delivery)
-            }
-        } else if number < 10 {
-            if number < 8 {
-                by_direction!(self, step_master, edge, slot, Wire::Addr => delivery)
-            } else if number < 9 {
-                by_direction!(self, step_master, edge, slot, Wire::AddressStrobe => delivery)
-            } else {
-                by_direction!(self, step_master, edge, slot, Wire::DataStrobe => delivery)
-            }
-        } else if number < 11 {
-            by_direction!(self, step_interrupter, edge, slot, Wire::Irq => delivery)
-        } else if number < 12 {
-            by_direction!(self, step_interrupter, edge, slot, Wire::IackOut => delivery)
         } else {
-            by_direction!(self, step_interrupter, edge, slot, Wire::Dtack => delivery)
+            match number * 2 + edge.fall as u8 {
+                0 => self.step_controller(edge, Wire::Bg(edge.wire.grant_level()), false, delivery),
+                1 => self.step_controller(edge, Wire::Bg(edge.wire.grant_level()), true, delivery),
+                2 => self.step_controller(edge, Wire::Bclr, false, delivery),
+                3 => self.step_controller(edge, Wire::Bclr, true, delivery),
+                4 => self.step_controller(edge, Wire::Iack, false, delivery),
+                5 => self.step_controller(edge, Wire::Iack, true, delivery),
+                6 => self.step_controller(edge, Wire::Berr, false, delivery),
+                7 => self.step_controller(edge, Wire::Berr, true, delivery),
+                8 => self.step_requester(edge, slot, Wire::Br, false, delivery),
+                9 => self.step_requester(edge, slot, Wire::Br, true, delivery),
+                10 => self.step_requester(edge, slot, Wire::BgOut, false, delivery),
+                11 => self.step_requester(edge, slot, Wire::BgOut, true, delivery),
+                12 => self.step_requester(edge, slot, Wire::Bbsy, false, delivery),
+                13 => self.step_requester(edge, slot, Wire::Bbsy, true, delivery),
+                14 => self.step_master(edge, slot, Wire::Addr, false, delivery),
+                15 => self.step_master(edge, slot, Wire::Addr, true, delivery),
+                16 => self.step_master(edge, slot, Wire::AddressStrobe, false, delivery),
+                17 => self.step_master(edge, slot, Wire::AddressStrobe, true, delivery),
+                18 => self.step_master(edge, slot, Wire::DataStrobe, false, delivery),
+                19 => self.step_master(edge, slot, Wire::DataStrobe, true, delivery),
+                20 => self.step_interrupter(edge, slot, Wire::Irq, false, delivery),
+                21 => self.step_interrupter(edge, slot, Wire::Irq, true, delivery),
+                22 => self.step_interrupter(edge, slot, Wire::IackOut, false, delivery),
+                23 => self.step_interrupter(edge, slot, Wire::IackOut, true, delivery),
+                24 => self.step_interrupter(edge, slot, Wire::Dtack, false, delivery),
+                _ => self.step_interrupter(edge, slot, Wire::Dtack, true, delivery),
+            }
         }
     }
 
