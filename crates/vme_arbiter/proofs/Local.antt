@@ -77,7 +77,8 @@ by_parts kind asked request version noted pins d Berr false v own = refl
 by_parts kind asked request version noted pins d w f v own = absurd (cc)
 
 -- a state that comes from a list answers as the list says
-pub answers_over : (kind : ArbiterKind) (version : Version) (noted : List Edge) (state : ControllerState) (pins : Pins) (e : Edge) → state ≡ controller_of kind version noted → has_wire Controller e.wire ≡ true →
+pub answers_over : (kind : ArbiterKind) (version : Version) (noted : List Edge) (state : ControllerState) (pins : Pins) (e : Edge) → state ≡ controller_of kind version noted
+    → has_wire Controller e.wire ≡ true →
     ruling state.version (local state pins) e ≡ ruling version (over kind noted pins) e
 answers_over kind version noted state pins e same own =
     let P : ControllerState → Type 0 = λ c. ruling c.version (local c pins) e ≡ ruling version (over kind noted pins) e in
@@ -85,7 +86,8 @@ answers_over kind version noted state pins e same own =
 
 -- a state that comes from a list answers a grant as the list says, by a policy's pick for the level
 -- last granted
-pub grants_over : (kind : ArbiterKind) (version : Version) (noted : List Edge) (state : ControllerState) (pins : Pins) (e : Edge) (picked : ℕ → Option ℕ) → state ≡ controller_of kind version noted → has_wire Controller e.wire ≡ true →
+pub grants_over : (kind : ArbiterKind) (version : Version) (noted : List Edge) (state : ControllerState) (pins : Pins) (e : Edge) (picked : ℕ → Option ℕ) → state ≡ controller_of kind version noted
+    → has_wire Controller e.wire ≡ true →
     ruling state.version (as_asked (local state pins) (alone (picked state.last_level)) Pri) e ≡ ruling version (over_pick (picked (last_level noted)) noted pins) e
 grants_over kind version noted state pins e picked same own =
     let P : ControllerState → Type 0 = λ c. ruling c.version (as_asked (local c pins) (alone (picked c.last_level)) Pri) e ≡ ruling version (over_pick (picked (last_level noted)) noted pins) e in

@@ -27,14 +27,16 @@ legal_before : (version : Version) (p : Plan) (a b : List Edge) → IsLegal vers
 legal_before version p [] b legal = legal
 legal_before version p (x ∷ a) b legal = legal_before version p a b legal.1
 
-was_allowed_in : (version : Version) (p : Plan) (xs : List Edge) (i : ℕ) (e : Edge) → IsLegal version p (reverse xs) → slice_get xs i ≡ Some e → verdict_but_full version p (reverse (take i xs)) e ≡ Ok tt
+was_allowed_in : (version : Version) (p : Plan) (xs : List Edge) (i : ℕ) (e : Edge) → IsLegal version p (reverse xs) → slice_get xs i ≡ Some e → verdict_but_full version p
+    (reverse (take i xs)) e ≡ Ok tt
 was_allowed_in version p xs i e legal is =
     let whole : reverse xs ≡ reverse (drop (i + 1) xs) ++ reverse (take (i + 1) xs) = ap (λ (ys : List Edge). reverse ys) (split_at xs (i + 1)) ∙ reverse-append (take (i + 1) xs) (drop (i + 1) xs) in
     let front = legal_before version p (reverse (drop (i + 1) xs)) (reverse (take (i + 1) xs)) (subst (IsLegal version p) whole legal) in
     (subst (IsLegal version p) (next_edge xs i e is) front).0
 
 -- the rules allowed that edge
-pub was_allowed : (version : Version) (p : Plan) (h : List Edge) (i : ℕ) (e : Edge) → IsLegal version p h → slice_get (in_order h) i ≡ Some e → verdict_but_full version p (reverse (take i (in_order h))) e ≡ Ok tt
+pub was_allowed : (version : Version) (p : Plan) (h : List Edge) (i : ℕ) (e : Edge) → IsLegal version p h → slice_get (in_order h) i ≡ Some e → verdict_but_full version p
+    (reverse (take i (in_order h))) e ≡ Ok tt
 was_allowed version p h i e legal is = was_allowed_in version p (in_order h) i e (subst (IsLegal version p) (sym (reverse-reverse h)) legal) is
 
 take_all : (xs : List Edge) → take (length xs) xs ≡ xs

@@ -143,7 +143,8 @@ acknowledge_is p h set t ok outputs head = by_board (board p t) refl
 same_either_way : (a b : ℕ) → (a == b) ≡ (b == a)
 same_either_way a b = grind (arith, nat_tests)
 
-part_moved : (f : Bool → Bool) (part here : Bool) (old new fed low : Bool) → fed ≡ (part && here) → old ≡ (part && low) → new ≡ (if fed then f old else old) → new ≡ (part && (if here then f low else low))
+part_moved : (f : Bool → Bool) (part here : Bool) (old new fed low : Bool) → fed ≡ (part && here) → old ≡ (part && low) → new ≡ (if fed then f old else old) → new
+    ≡ (part && (if here then f low else low))
 part_moved f true true old new fed low feeds held moves = moves ∙ ap (λ b. if b then f old else old) feeds ∙ ap f held
 part_moved f true false old new fed low feeds held moves = moves ∙ ap (λ b. if b then f old else old) feeds ∙ held
 part_moved f false here old new fed low feeds held moves = moves ∙ ap (λ b. if b then f old else old) feeds ∙ held

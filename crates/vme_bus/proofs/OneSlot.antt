@@ -25,7 +25,8 @@ not_a_boards version p h s w legal lacks = sym (never_drove version p h (Slot s)
     by_board None = refl
     by_board (Some r) = lacks r
 
-pub controllers_wire : (version : Version) (p : Plan) (h : List Edge) (s : ℕ) (w : Wire) → IsLegal version p h → ((n : ℕ) × (w ≡ Bg n)) ⊎ ((w ≡ Bclr) ⊎ ((w ≡ Iack) ⊎ (w ≡ Berr))) → false ≡ drive h (Slot s) w
+pub controllers_wire : (version : Version) (p : Plan) (h : List Edge) (s : ℕ) (w : Wire) → IsLegal version p h → ((n : ℕ) × (w ≡ Bg n)) ⊎ ((w ≡ Bclr) ⊎ ((w ≡ Iack) ⊎ (w ≡ Berr)))
+    → false ≡ drive h (Slot s) w
 controllers_wire version p h s w legal one = by_wire one
   where
     at : (x : Wire) → w ≡ x → ((r : Row) → drives x r ≡ false) → false ≡ drive h (Slot s) w

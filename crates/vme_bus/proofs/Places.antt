@@ -7,7 +7,8 @@ use Rattle.vme_bus.specs.Sets.{has}
 use Rattle.vme_bus.specs.Moves.{MovesPlace}
 
 -- what a set says of a place after the move
-pub moved_to : (f : Bool → Bool) (place s : ℕ) (old new : SlotSet) (g after : ℕ → Bool) → MovesPlace f place old new → has old s ≡ g s → f (g place) ≡ after place → ((place == s) ≡ false → after s ≡ g s) → has new s ≡ after s
+pub moved_to : (f : Bool → Bool) (place s : ℕ) (old new : SlotSet) (g after : ℕ → Bool) → MovesPlace f place old new → has old s ≡ g s → f (g place) ≡ after place
+    → ((place == s) ≡ false → after s ≡ g s) → has new s ≡ after s
 moved_to f place s old new g after moves held here there = moves s ∙ by_place (place == s) refl
   where
     by_place : (b : Bool) → (place == s) ≡ b → (if b then f (has old s) else has old s) ≡ after s

@@ -161,7 +161,8 @@ module _ (version : Version) (p : Plan) (h : List Edge) (s : ℕ) where
   address_shut on stays = by_state (own Addr) refl
     where
       by_state : (b : Bool) → own Addr ≡ b → filter (is_open version p h) (if own Addr then turned h (Slot s) Addr ∷ [] else going_on p h (Slot s)) ≡ []
-      by_state true is = ap (λ b. filter (is_open version p h) (if b then turned h (Slot s) Addr ∷ [] else going_on p h (Slot s))) is ∙ one_shut (is_open version p h) (turned h (Slot s) Addr) (closed version p h (Slot s) Addr true is stays)
+      by_state true is = ap (λ b. filter (is_open version p h) (if b then turned h (Slot s) Addr ∷ [] else going_on p h (Slot s))) is ∙ one_shut (is_open version p h) (turned h (Slot s) Addr)
+          (closed version p h (Slot s) Addr true is stays)
       by_state false is = ap (λ b. filter (is_open version p h) (if b then turned h (Slot s) Addr ∷ [] else going_on p h (Slot s))) is ∙ none_on on (board p s) refl
 
   strobe_shut : line p h AddressStrobe ≡ true → (own AddressStrobe && not (own Addr)) ≡ false → is_open version p h (turned h (Slot s) AddressStrobe) ≡ false
@@ -203,7 +204,8 @@ module _ (version : Version) (p : Plan) (h : List Edge) (s : ℕ) where
       by_state true is = held_there (own IackOut) (line p h AddressStrobe) is held
       by_state false is = three_of_four (iack_in p h (Slot s)) (own Dtack) (line p h DataStrobe) _ (kept is)
 
-  request_shut : (interrupts : Bool) → interrupts ≡ has_driver p (Slot s) Irq → (interrupts && not (own Irq && not (is_served p h (Slot s)))) ≡ false → is_open version p h (turned h (Slot s) Irq) ≡ false
+  request_shut : (interrupts : Bool) → interrupts ≡ has_driver p (Slot s) Irq → (interrupts && not (own Irq && not (is_served p h (Slot s)))) ≡ false
+      → is_open version p h (turned h (Slot s) Irq) ≡ false
   request_shut false lacks waits = lacking version p h (turned h (Slot s) Irq) (sym lacks)
   request_shut true part waits =
       let t = both_wait (own Irq) (is_served p h (Slot s)) waits in

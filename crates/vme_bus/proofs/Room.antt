@@ -39,7 +39,8 @@ with_same : (v : Judgement) (d : Option Delivery) → is_ok (with_delivery v d) 
 with_same (Ok u) d = refl
 with_same (Err refused) d = refl
 
-pub kept_where : (version : Version) (p : Plan) (h : List Edge) (e : Edge) (answered : Result (Option Delivery) Refused) (b : Bool) → answered ≡ answer_but_full version p h e → is_ok answered ≡ b → kept_but_full version p h e ≡ (if b then e ∷ h else h)
+pub kept_where : (version : Version) (p : Plan) (h : List Edge) (e : Edge) (answered : Result (Option Delivery) Refused) (b : Bool) → answered ≡ answer_but_full version p h e → is_ok answered ≡ b
+    → kept_but_full version p h e ≡ (if b then e ∷ h else h)
 kept_where version p h e answered b is on =
     ap (λ x. if x then e ∷ h else h) (sym (with_same (verdict_but_full version p h e) (delivery p h e)) ∙ ap is_ok (sym is) ∙ on)
 

@@ -52,7 +52,8 @@ each_of_four P a b c d fa fb fc fd (suc (suc zero)) l = fc
 each_of_four P a b c d fa fb fc fd (suc (suc (suc zero))) l = fd
 each_of_four P a b c d fa fb fc fd (suc (suc (suc (suc n)))) l = absurd (omega arith)
 
-pub each_of_eight : (P : ℕ → SlotSet → Type 0) (a b c d e f g h : SlotSet) → P 0 a → P 1 b → P 2 c → P 3 d → P 4 e → P 5 f → P 6 g → P 7 h → (n : ℕ) → n < 8 → P n (set_at (a ∷ b ∷ c ∷ d ∷ e ∷ f ∷ g ∷ h ∷ []) n)
+pub each_of_eight : (P : ℕ → SlotSet → Type 0) (a b c d e f g h : SlotSet) → P 0 a → P 1 b → P 2 c → P 3 d → P 4 e → P 5 f → P 6 g → P 7 h → (n : ℕ) → n < 8
+    → P n (set_at (a ∷ b ∷ c ∷ d ∷ e ∷ f ∷ g ∷ h ∷ []) n)
 each_of_eight P a b c d e f g h fa fb fc fd fe ff fg fh zero l = fa
 each_of_eight P a b c d e f g h fa fb fc fd fe ff fg fh (suc zero) l = fb
 each_of_eight P a b c d e f g h fa fb fc fd fe ff fg fh (suc (suc zero)) l = fc

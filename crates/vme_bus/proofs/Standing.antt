@@ -38,7 +38,8 @@ requests_some p h n s (Some r) e = by_requester r.requester e
     by_requester None e = absurd (cc)
     by_requester (Some x) e = refl
 
-grants_some : (p : Plan) (h : List Edge) (o : Option Row) → option_map_or (λ r. option_map_or (λ q. input p h (grant_chain q.level) r.slot) r.requester false) o false ≡ true → option_map_or (λ r. is_some r.requester) o false ≡ true
+grants_some : (p : Plan) (h : List Edge) (o : Option Row) → option_map_or (λ r. option_map_or (λ q. input p h (grant_chain q.level) r.slot) r.requester false) o false ≡ true
+    → option_map_or (λ r. is_some r.requester) o false ≡ true
 grants_some p h None e = absurd (cc)
 grants_some p h (Some r) e = by_requester r.requester e
   where

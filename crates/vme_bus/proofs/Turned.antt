@@ -25,7 +25,8 @@ use Rattle.vme_histories.proofs.NoOffers.{lacking}
 use Rattle.vme_model.specs.declared.signals.Part.TheVariants as parts
 use Rattle.vme_model.specs.Signals.{is_of}
 
-opens : (there low a b : Bool) (n m : ℕ) → there ≡ true → (a && b) ≡ is_ok (check there NoSuchDriver (check (is_other_state low (not low)) AlreadyThere (check a (Rule n) (check b (NotSettled m) (Ok tt)))))
+opens : (there low a b : Bool) (n m : ℕ) → there ≡ true → (a && b) ≡ is_ok
+    (check there NoSuchDriver (check (is_other_state low (not low)) AlreadyThere (check a (Rule n) (check b (NotSettled m) (Ok tt)))))
 opens true true true true n m e = refl
 opens true true true false n m e = refl
 opens true true false b n m e = refl

@@ -78,7 +78,8 @@ signal_on p pins None g =
 -- the shared line that an edge pulls or lets go, or the probed pin that it moves
 abbrev pub signal_of : Plan → List Pin → Edge → Option Signal
 signal_of p pins e =
-    signal_on p pins (line_of e.wire (board_of p e.driver)) (segment_of e.wire (board_of p e.driver))
+    signal_on p pins (line_of e.wire (board_of p e.driver))
+    (segment_of e.wire (board_of p e.driver))
 
 -- what is seen with an edge: at a fall of AS* what is shown, and at one of DTACK* in an acknowledge
 -- the status byte

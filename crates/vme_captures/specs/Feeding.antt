@@ -71,7 +71,8 @@ pub record LacksRoom (r : Reading) (said : List Entry) : Type 0 where
 -- a text that says this has this fault next, behind what was said; or it is X6 at a pin
 abbrev pub IsFaultAfter : Reading → List Entry → CaptureFault → Type 0
 IsFaultAfter r said f =
-    ((r.entries ≡ reverse said) × (r.fault ≡ Some f)) ⊎ ((f ≡ Trace trace.Memory) × LacksRoom r said)
+    ((r.entries ≡ reverse said) × (r.fault ≡ Some f))
+    ⊎ ((f ≡ Trace trace.Memory) × LacksRoom r said)
 
 -- what was said, with one more
 abbrev pub with_entry : Option Entry → List Entry → List Entry

@@ -103,21 +103,24 @@ one_missed : (test : Edge → Bool) (e : Edge) → test e ≡ false → find tes
 one_missed test e h = ap (λ (t : Bool). if t then Some e else None) h
 
 -- of the two edges of a wire only the one that moves it can be refused by this alone
-pub fall_found : (b : State) (o : Option Driver) (m : Miss) (d : Driver) (w : Wire) → is_missed b o m (turned_to d w true) ≡ true → find (is_missed b o m) (turned b.history d w ∷ []) ≡ Some (turned_to d w true)
+pub fall_found : (b : State) (o : Option Driver) (m : Miss) (d : Driver) (w : Wire) → is_missed b o m (turned_to d w true) ≡ true → find (is_missed b o m) (turned b.history d w ∷ [])
+    ≡ Some (turned_to d w true)
 fall_found b o m d w h = at (drive b.history d w) refl
   where
     at : (low : Bool) → drive b.history d w ≡ low → find (is_missed b o m) (turned b.history d w ∷ []) ≡ Some (turned_to d w true)
     at true p = never (is_missed b o m (turned_to d w true)) h (not_missed b o m (turned_to d w true) p)
     at false p = ap (λ low. find (is_missed b o m) (turned_to d w (not low) ∷ [])) p ∙ one_found (is_missed b o m) (turned_to d w true) h
 
-pub rise_found : (b : State) (o : Option Driver) (m : Miss) (d : Driver) (w : Wire) → is_missed b o m (turned_to d w false) ≡ true → find (is_missed b o m) (turned b.history d w ∷ []) ≡ Some (turned_to d w false)
+pub rise_found : (b : State) (o : Option Driver) (m : Miss) (d : Driver) (w : Wire) → is_missed b o m (turned_to d w false) ≡ true → find (is_missed b o m) (turned b.history d w ∷ [])
+    ≡ Some (turned_to d w false)
 rise_found b o m d w h = at (drive b.history d w) refl
   where
     at : (low : Bool) → drive b.history d w ≡ low → find (is_missed b o m) (turned b.history d w ∷ []) ≡ Some (turned_to d w false)
     at false p = never (is_missed b o m (turned_to d w false)) h (not_missed b o m (turned_to d w false) p)
     at true p = ap (λ low. find (is_missed b o m) (turned_to d w (not low) ∷ [])) p ∙ one_found (is_missed b o m) (turned_to d w false) h
 
-pub neither_found : (b : State) (o : Option Driver) (m : Miss) (d : Driver) (w : Wire) → is_missed b o m (turned_to d w true) ≡ false → is_missed b o m (turned_to d w false) ≡ false → find (is_missed b o m) (turned b.history d w ∷ []) ≡ None
+pub neither_found : (b : State) (o : Option Driver) (m : Miss) (d : Driver) (w : Wire) → is_missed b o m (turned_to d w true) ≡ false → is_missed b o m (turned_to d w false) ≡ false
+    → find (is_missed b o m) (turned b.history d w ∷ []) ≡ None
 neither_found b o m d w fall rise = at (drive b.history d w) refl
   where
     at : (low : Bool) → drive b.history d w ≡ low → find (is_missed b o m) (turned b.history d w ∷ []) ≡ None
@@ -132,7 +135,8 @@ find-map : {X Y : Type 0} (test : Y → Bool) (f : X → Y) (xs : List X) → fi
 find-map test f [] = refl
 find-map test f (x ∷ xs) = first (test (f x)) (find-map test f xs)
   where
-    first : (t : Bool) → find test (map f xs) ≡ option_map f (find (λ x. test (f x)) xs) → (if t then Some (f x) else find test (map f xs)) ≡ option_map f (if t then Some x else find (λ x. test (f x)) xs)
+    first : (t : Bool) → find test (map f xs) ≡ option_map f (find (λ x. test (f x)) xs) → (if t then Some (f x) else find test (map f xs))
+        ≡ option_map f (if t then Some x else find (λ x. test (f x)) xs)
     first true e = refl
     first false e = e
 
@@ -144,19 +148,22 @@ address_moves : (h : List Edge) (d : Driver) (low : Bool) → drive h d Addr ≡
 address_moves h d true p = ap (λ (t : Bool). if t then turned_to d Addr (not t) ∷ [] else map (showing d) cycles) p
 address_moves h d false p = ap (λ (t : Bool). if t then turned_to d Addr (not t) ∷ [] else map (showing d) cycles) p
 
-pub off_found : (b : State) (o : Option Driver) (m : Miss) (d : Driver) → is_missed b o m (turned_to d Addr false) ≡ true → find (is_missed b o m) (moves b.history d Addr) ≡ Some (turned_to d Addr false)
+pub off_found : (b : State) (o : Option Driver) (m : Miss) (d : Driver) → is_missed b o m (turned_to d Addr false) ≡ true → find (is_missed b o m) (moves b.history d Addr)
+    ≡ Some (turned_to d Addr false)
 off_found b o m d h = at (drive b.history d Addr) refl
   where
     at : (low : Bool) → drive b.history d Addr ≡ low → find (is_missed b o m) (moves b.history d Addr) ≡ Some (turned_to d Addr false)
     at false p = never (is_missed b o m (turned_to d Addr false)) h (not_missed b o m (turned_to d Addr false) p)
     at true p = ap (find (is_missed b o m)) (address_moves b.history d true p) ∙ one_found (is_missed b o m) (turned_to d Addr false) h
 
-pub on_found : (b : State) (o : Option Driver) (m : Miss) (d : Driver) → is_missed b o m (turned_to d Addr false) ≡ false → find (is_missed b o m) (moves b.history d Addr) ≡ option_map (showing d) (find (λ c. is_missed b o m (showing d c)) cycles)
+pub on_found : (b : State) (o : Option Driver) (m : Miss) (d : Driver) → is_missed b o m (turned_to d Addr false) ≡ false → find (is_missed b o m) (moves b.history d Addr) ≡ option_map (showing d)
+    (find (λ c. is_missed b o m (showing d c)) cycles)
 on_found b o m d h = at (drive b.history d Addr) refl
   where
     at : (low : Bool) → drive b.history d Addr ≡ low → find (is_missed b o m) (moves b.history d Addr) ≡ option_map (showing d) (find (λ c. is_missed b o m (showing d c)) cycles)
     at false p = ap (find (is_missed b o m)) (address_moves b.history d false p) ∙ find-map (is_missed b o m) (showing d) cycles
-    at true p = ap (find (is_missed b o m)) (address_moves b.history d true p) ∙ one_missed (is_missed b o m) (turned_to d Addr false) h ∙ sym (ap (option_map (showing d)) (none_shown b o m d cycles p))
+    at true p = ap (find (is_missed b o m)) (address_moves b.history d true p) ∙ one_missed (is_missed b o m) (turned_to d Addr false) h
+        ∙ sym (ap (option_map (showing d)) (none_shown b o m d cycles p))
 
 -- a search of lists one after another, as far as it has come
 pub one_more : {X : Type 0} (test : Edge → Bool) (f : X → List Edge) (xs : List X) (i : ℕ) (x : X) → i < length xs

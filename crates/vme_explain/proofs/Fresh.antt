@@ -61,7 +61,12 @@ nothing_moved m wires grant = record {
 -- nor is any request served
 pub nothing_served : (p : Plan) (m : Services) → m.strobes ≡ replicate 22 None → m.acknowledged ≡ replicate 22 None → m.accessed ≡ replicate 22 None → m.made ≡ replicate 22 0 → IsServicesOf p [] m
 nothing_served p m strobes acknowledged accessed made = record {
-  boards = (ap length strobes ∙ length-replicate {A = Option ℕ} 22 None, ap length acknowledged ∙ length-replicate {A = Option ℕ} 22 None, ap length accessed ∙ length-replicate {A = Option ℕ} 22 None, ap length made ∙ length-replicate {A = ℕ} 22 0);
+  boards = (
+    ap length strobes ∙ length-replicate {A = Option ℕ} 22 None,
+    ap length acknowledged ∙ length-replicate {A = Option ℕ} 22 None,
+    ap length accessed ∙ length-replicate {A = Option ℕ} 22 None,
+    ap length made ∙ length-replicate {A = ℕ} 22 0,
+  );
   strobes = λ s lt. ap (λ xs. get_or xs s None) strobes ∙ get_or-replicate {A = Option ℕ} 22 s None None lt;
   acknowledged = λ s lt. ap (λ xs. get_or xs s None) acknowledged ∙ get_or-replicate {A = Option ℕ} 22 s None None lt;
   accessed = λ s lt. ap (λ xs. get_or xs s None) accessed ∙ get_or-replicate {A = Option ℕ} 22 s None None lt;

@@ -21,7 +21,8 @@ failed_more {A} {B} f test x o e =
     sym (append-nil o) ∙ ap (λ (t : Bool). o ++ map f (if t then x ∷ [] else [])) (sym e)
 
 -- the next element of a list
-pub next_grown : {A B : Type 0} (f : A → B) (test : A → Bool) (xs : List A) (i : ℕ) (x : A) (o n m : List B) → i < length xs → n ≡ o ++ map f (filter test (take i xs)) → m ≡ n ++ map f (filter test (get_or xs i x ∷ [])) → m ≡ o ++ map f (filter test (take (i + 1) xs))
+pub next_grown : {A B : Type 0} (f : A → B) (test : A → Bool) (xs : List A) (i : ℕ) (x : A) (o n m : List B) → i < length xs → n ≡ o ++ map f (filter test (take i xs)) → m ≡ n
+    ++ map f (filter test (get_or xs i x ∷ [])) → m ≡ o ++ map f (filter test (take (i + 1) xs))
 next_grown {A} {B} f test xs i x o n m lt e g =
     grown f test o n m (take i xs) (get_or xs i x ∷ []) e g
     ∙ ap (λ (t : List A). o ++ map f (filter test t)) (sym (take_more xs i x lt))

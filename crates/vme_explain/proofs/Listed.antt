@@ -76,4 +76,5 @@ pub lines_from : (text : Driver → List ℕ) (ds : List Driver) (i : ℕ) (d : 
 lines_from text ds i d l is =
     ap (lines_for text) (sym (take-append-drop i ds) ∙ ap (λ l. take i ds ++ l) (drop_more ds i d l))
     ∙ lines-append text (take i ds) (get_or ds i d ∷ drop (i + 1) ds)
-    ∙ ap (λ (b : Bool). lines_for text (take i ds) ++ flat_map (λ e. text e ++ 10 ∷ []) (if b then get_or ds i d ∷ filter (λ e. nat_lt 0 (length (text e))) (drop (i + 1) ds) else filter (λ e. nat_lt 0 (length (text e))) (drop (i + 1) ds))) is
+    ∙ ap (λ (b : Bool). lines_for text (take i ds) ++ flat_map (λ e. text e ++ 10 ∷ []) (if b then get_or ds i d ∷ filter (λ e. nat_lt 0 (length (text e))) (drop (i + 1) ds)
+    else filter (λ e. nat_lt 0 (length (text e))) (drop (i + 1) ds))) is

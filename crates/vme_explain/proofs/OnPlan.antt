@@ -20,7 +20,8 @@ driver_of_board p accepted d s r at is = subst (λ x. is_driver x ≡ true) (sym
 
 all_reversed : (P : ℕ → Type 0) (xs : List ℕ) → All P xs → All P (reverse xs)
 all_reversed P [] a = a
-all_reversed P (x ∷ xs) a = subst (All P) (sym (reverse-append (x ∷ []) xs)) (All-append P (reverse xs) (x ∷ []) (all_reversed P xs (All-tail P x xs a)) (All-cons P x [] (All-head P x xs a) (All-nil P)))
+all_reversed P (x ∷ xs) a = subst (All P) (sym (reverse-append (x ∷ []) xs)) (All-append P (reverse xs) (x ∷ []) (all_reversed P xs (All-tail P x xs a))
+    (All-cons P x [] (All-head P x xs a) (All-nil P)))
 
 active_slots : (p : Plan) → IsAccepted p → (c : ChainId) → All (λ s. is_slot s ≡ true) (reverse (active p c))
 active_slots p accepted c = all_reversed (λ s. is_slot s ≡ true) (active p c) (All-filter (is_active p.rows c) (λ s. is_slot s ≡ true) (up_to p.slots) (all_slots p accepted))

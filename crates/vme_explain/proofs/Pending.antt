@@ -14,7 +14,8 @@ use Rattle.vme_model.specs.Readings.{is_pending, readings}
 use Rattle.vme_model.specs.Numbered.{Numbered, edges_in, served_since}
 use Rattle.vme_model.proofs.Numbers.{served_has_since}
 
-part_of : (o : Option Row) (served : InterrupterRow → Bool) → option_map_or (λ r. option_map_or served r.interrupter false) o false ≡ option_map_or served (option_and_then (λ r. r.interrupter) o) false
+part_of : (o : Option Row) (served : InterrupterRow → Bool) → option_map_or (λ r. option_map_or served r.interrupter false) o false
+    ≡ option_map_or served (option_and_then (λ r. r.interrupter) o) false
 part_of None served = refl
 part_of (Some r) served = refl
 
@@ -34,7 +35,8 @@ pub pending_unless_served : (p : Plan) (h : List Edge) (d : Driver) (i : Interru
 pending_unless_served p h d i k none is same low served =
     turned none (served_since_request p h d i.kind) (sym (ap (λ l. served_since_request p l d i.kind) (sym same) ∙ sym (served_has_since p k d i.kind) ∙ served))
     ∙ sym (pending_is (board_of p d) i (λ j. served_since_request p h d j.kind) is)
-    ∙ ap (λ b. option_map_or (λ j. j.level == i.level) (option_and_then (λ r. r.interrupter) (board_of p d)) false && b && not (option_map_or (λ r. option_map_or (λ j. served_since_request p h d j.kind) r.interrupter false) (board_of p d) false)) (sym low)
+    ∙ ap (λ b. option_map_or (λ j. j.level == i.level) (option_and_then (λ r. r.interrupter) (board_of p d)) false && b
+    && not (option_map_or (λ r. option_map_or (λ j. served_since_request p h d j.kind) r.interrupter false) (board_of p d) false)) (sym low)
   where
     turned : (a b : Bool) → not a ≡ b → a ≡ not b
     turned true b e = ap not e

@@ -27,6 +27,7 @@ module _ (b : State) (e : Edge) where
 
   pub six_tested : most (tested b e) ≤ 6
   six_tested =
-      by_tests (is_well_formed e && has_driver b.plan e.driver e.wire) (is_other_state (drive b.history e.driver e.wire) e.fall) (rule b.version (readings b.plan b.history e.driver) e.wire e.fall e.value).1 (settled b.version b.plan b.history e) (not (length b.history == b.max))
+      by_tests (is_well_formed e && has_driver b.plan e.driver e.wire) (is_other_state (drive b.history e.driver e.wire) e.fall) (rule b.version (readings b.plan b.history e.driver) e.wire e.fall
+      e.value).1 (settled b.version b.plan b.history e) (not (length b.history == b.max))
       (rule b.version (readings b.plan b.history e.driver) e.wire e.fall e.value).0 (settling b.version b.plan b.history e.wire e.fall).0
       (five_tested b.version b.plan b.history e)

@@ -27,7 +27,8 @@ use Rattle.vme_model.proofs.PinSets.{pick_of_pins}
 use Rattle.vme_explain.specs.Witnessed.{value_shown}
 
 -- the address group alone has a value
-pub wire_at_is : (b : State) (k : Numbered) (d : Driver) (w : Wire) (level : Option ℕ) → wire_at b k d w level ≡ witness.Wire d w (drive b.history d w) (value_shown w (drive b.history d w) (shown b.plan b.history)) level (since k d w)
+pub wire_at_is : (b : State) (k : Numbered) (d : Driver) (w : Wire) (level : Option ℕ) → wire_at b k d w level ≡ witness.Wire d w (drive b.history d w)
+    (value_shown w (drive b.history d w) (shown b.plan b.history)) level (since k d w)
 wire_at_is b k d (Bg level) n = refl
 wire_at_is b k d Bclr n = refl
 wire_at_is b k d Iack n = refl
@@ -43,7 +44,8 @@ wire_at_is b k d IackOut n = refl
 wire_at_is b k d Dtack n = refl
 
 -- the request lines on the pins are those of the boards
-pub pick_witness : (kind : ArbiterKind) (p : Plan) (h : List Edge) (requests : BusLevels) (last : ℕ) (r : Option ℕ) → r ≡ pick kind (has_bus_level requests) last → kind ≡ p.arbiter → requests ≡ bus_levels (request_line p h) → last ≡ last_level h → r ≡ pick p.arbiter (request_line p h) (last_level h)
+pub pick_witness : (kind : ArbiterKind) (p : Plan) (h : List Edge) (requests : BusLevels) (last : ℕ) (r : Option ℕ) → r ≡ pick kind (has_bus_level requests) last → kind ≡ p.arbiter → requests
+    ≡ bus_levels (request_line p h) → last ≡ last_level h → r ≡ pick p.arbiter (request_line p h) (last_level h)
 pick_witness kind p h requests last r e f g l =
     e ∙ ap (λ (x : ArbiterKind). pick x (has_bus_level requests) last) f
     ∙ ap (λ (x : BusLevels). pick p.arbiter (has_bus_level x) last) g
@@ -138,13 +140,15 @@ no_witness k d s at is =
     sym (ap (λ (m : Option ℕ). option_to_list (option_map (λ j. witness.Strobed (Slot s) j) m)) is)
     ∙ sym (ap (λ (x : Driver). strobe k x) at)
 
-service_is : (b : State) (k : Numbered) (d : Driver) (i : InterrupterRow) (n : Option ℕ) → drive b.history d Irq ≡ true → Some i ≡ interrupter_of b d → n ≡ served_since b.plan k d i.kind → option_to_list (option_map (λ m. witness.Served d m) n) ≡ service b k d
+service_is : (b : State) (k : Numbered) (d : Driver) (i : InterrupterRow) (n : Option ℕ) → drive b.history d Irq ≡ true → Some i ≡ interrupter_of b d → n ≡ served_since b.plan k d i.kind
+    → option_to_list (option_map (λ m. witness.Served d m) n) ≡ service b k d
 service_is b k d i n low is at =
     ap (λ (m : Option ℕ). option_to_list (option_map (λ m. witness.Served d m) m)) at
     ∙ ap (λ (o : Option InterrupterRow). option_to_list (option_map (λ m. witness.Served d m) (option_and_then (λ j. served_since b.plan k d j.kind) o))) is
     ∙ ap (λ (t : Bool). if t then option_to_list (option_map (λ m. witness.Served d m) (option_and_then (λ j. served_since b.plan k d j.kind) (interrupter_of b d))) else []) (sym low)
 
-pub service_witness : (b : State) (k : Numbered) (d : Driver) (s : ℕ) (i : InterrupterRow) (n : ℕ) → d ≡ Slot s → drive b.history d Irq ≡ true → interrupter_of b d ≡ Some i → served_since b.plan k (Slot s) i.kind ≡ Some n → witness.Served (Slot s) n ∷ [] ≡ service b k d
+pub service_witness : (b : State) (k : Numbered) (d : Driver) (s : ℕ) (i : InterrupterRow) (n : ℕ) → d ≡ Slot s → drive b.history d Irq ≡ true → interrupter_of b d ≡ Some i
+    → served_since b.plan k (Slot s) i.kind ≡ Some n → witness.Served (Slot s) n ∷ [] ≡ service b k d
 service_witness b k d s i n at low is e =
     ap (λ (x : Driver). witness.Served x n ∷ []) (sym at)
     ∙ service_is b k d i (Some n) low (sym is) (sym e ∙ ap (λ (x : Driver). served_since b.plan k x i.kind) (sym at))

@@ -115,6 +115,7 @@ own_second b k d _ = []
 -- what is printed about a condition that is not of those that ask
 abbrev pub other_witnesses : State → Numbered → Edge → Condition → List Witness
 other_witnesses b k e c =
-    (((line_witnesses b k (first_line c) ++ line_witnesses b k (second_line c)) ++ place_witnesses b k e c)
+    (((line_witnesses b k (first_line c) ++ line_witnesses b k (second_line c))
+    ++ place_witnesses b k e c)
     ++ own_first b k e.driver c)
     ++ own_second b k e.driver c

@@ -15,7 +15,8 @@ find-map : {X Y : Type 0} (test : Y → Bool) (f : X → Y) (xs : List X) → fi
 find-map test f [] = refl
 find-map test f (x ∷ xs) = first (test (f x)) (find-map test f xs)
   where
-    first : (b : Bool) → find test (map f xs) ≡ option_map f (find (λ x. test (f x)) xs) → (if b then Some (f x) else find test (map f xs)) ≡ option_map f (if b then Some x else find (λ x. test (f x)) xs)
+    first : (b : Bool) → find test (map f xs) ≡ option_map f (find (λ x. test (f x)) xs) → (if b then Some (f x) else find test (map f xs))
+        ≡ option_map f (if b then Some x else find (λ x. test (f x)) xs)
     first true e = refl
     first false e = e
 

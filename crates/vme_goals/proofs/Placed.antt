@@ -30,7 +30,8 @@ pub index_is : (v : Event) → event_index v ≡ tag_of the_type v
 unfolding event_index
 index_is v =
     position_or_len_is (is_same_event v) all_events (tag_of the_type v) v (let below = number_below v in omega (arith, below))
-    (λ k less. ne_eqb (tag_of the_type v) (tag_of the_type (get_or all_events k v)) (λ same. let at = number_at k v (let below = number_below v in omega (arith, less, below)) in omega (arith, less, at, same)))
+    (λ k less. ne_eqb (tag_of the_type v) (tag_of the_type (get_or all_events k v)) (λ same. let at = number_at k v (let below = number_below v in omega (arith, less, below)) in
+    omega (arith, less, at, same)))
     (λ within. eq-eqb (tag_of the_type v) (tag_of the_type (get_or all_events (tag_of the_type v) v)) (sym (number_at (tag_of the_type v) v within)))
 
 pub index_below : (v : Event) → event_index v < length all_events

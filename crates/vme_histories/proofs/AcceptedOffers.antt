@@ -30,7 +30,8 @@ kept_passes {A} f [] x k is = absurd (cc)
 kept_passes {A} f (y ∷ ys) x k is = passes_more f y ys x (f y) refl (kept_passes f ys x) k is
 
 -- a verdict that is Ok passed each of its tests
-five_passed : (a b c d r : Bool) (w x y z t : Refused) → is_ok {T = Unit {0}} {E = Refused} (check a w (check b x (check c y (check d z (check r t (Ok tt)))))) ≡ true → (check a w (check b x (check c y (check d z (Ok tt)))) ≡ Ok tt) × (r ≡ true)
+five_passed : (a b c d r : Bool) (w x y z t : Refused) → is_ok {T = Unit {0}} {E = Refused} (check a w (check b x (check c y (check d z (check r t (Ok tt)))))) ≡ true
+    → (check a w (check b x (check c y (check d z (Ok tt)))) ≡ Ok tt) × (r ≡ true)
 five_passed true true true true true w x y z t holds = (refl, refl)
 five_passed a b c d r w x y z t holds = absurd (cc)
 
@@ -43,7 +44,8 @@ module _ (b : State) (e : Edge) (accepted : verdict b e ≡ Ok tt) where
   passed =
       five_passed (is_well_formed e && has_driver b.plan e.driver e.wire) (is_other_state (drive b.history e.driver e.wire) e.fall)
       (rule b.version (readings b.plan b.history e.driver) e.wire e.fall e.value).1 (settled b.version b.plan b.history e) (not (length b.history == b.max))
-      NoSuchDriver AlreadyThere (Rule (rule b.version (readings b.plan b.history e.driver) e.wire e.fall e.value).0) (NotSettled (settling b.version b.plan b.history e.wire e.fall).0) TraceFull (ap is_ok accepted)
+      NoSuchDriver AlreadyThere (Rule (rule b.version (readings b.plan b.history e.driver) e.wire e.fall e.value).0) (NotSettled (settling b.version b.plan b.history e.wire e.fall).0)
+      TraceFull (ap is_ok accepted)
 
   pub is_allowed : verdict_but_full b.version b.plan b.history e ≡ Ok tt
   is_allowed = passed.0

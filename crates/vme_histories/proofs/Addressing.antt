@@ -65,7 +65,8 @@ pub record IsShown (p : Plan) (h : List Edge) (s : ℕ) (fall : Bool) (v : Optio
   pub addressing : addressing p (at s Addr fall v ∷ h) ≡ addressing_after (addressing p h) s Addr fall
   pub shown : shown p (at s Addr fall v ∷ h) ≡ v
 
-pub showing : (version : Version) (p : Plan) (h : List Edge) (s : ℕ) (r : Row) (fall : Bool) (v : Option Cycle) → IsAccepted p → IsLegal version p h → verdict_but_full version p h (at s Addr fall v) ≡ Ok tt → Stands p s r → IsDriven p h s r Addr fall v → IsShown p h s fall v
+pub showing : (version : Version) (p : Plan) (h : List Edge) (s : ℕ) (r : Row) (fall : Bool) (v : Option Cycle) → IsAccepted p → IsLegal version p h → verdict_but_full version p h (at s Addr fall v)
+    ≡ Ok tt → Stands p s r → IsDriven p h s r Addr fall v → IsShown p h s fall v
 showing version p h s r true v ok legal allowed k d =
     let on = going_on p h s r v k (one_addresses version p (at s Addr true v ∷ h) ok (allowed, legal)) in
     record {
@@ -84,14 +85,16 @@ pub record IsShownAt (p : Plan) (h : List Edge) (s : ℕ) (w : Wire) (fall : Boo
   pub addressing : addressing p (at s w fall v ∷ h) ≡ addressing_after (addressing p h) s w fall
   pub shown : shown p (at s w fall v ∷ h) ≡ v
 
-pub shown_at : (version : Version) (p : Plan) (h : List Edge) (s : ℕ) (r : Row) (w : Wire) (fall : Bool) (v : Option Cycle) → IsAccepted p → IsLegal version p h → verdict_but_full version p h (at s w fall v) ≡ Ok tt → Stands p s r → IsDriven p h s r w fall v → w ≡ Addr → IsShownAt p h s w fall v
+pub shown_at : (version : Version) (p : Plan) (h : List Edge) (s : ℕ) (r : Row) (w : Wire) (fall : Bool) (v : Option Cycle) → IsAccepted p → IsLegal version p h → verdict_but_full version p h
+    (at s w fall v) ≡ Ok tt → Stands p s r → IsDriven p h s r w fall v → w ≡ Addr → IsShownAt p h s w fall v
 shown_at version p h s r w fall v ok legal allowed k d is =
     let P : Wire → Type 0 = λ x. verdict_but_full version p h (at s x fall v) ≡ Ok tt → IsDriven p h s r x fall v → IsShownAt p h s x fall v in
     let all : P Addr = λ a b. let shows = showing version p h s r fall v ok legal a k b in record { addressing = shows.addressing; shown = shows.shown } in
     subst P (sym is) all allowed d
 
 -- the slot whose address group is on
-pub addressing_by : (p : Plan) (h : List Edge) (s : ℕ) (w : Wire) (fall : Bool) (v : Option Cycle) → has_wire (Slot s) w ≡ true → (w ≡ Addr → addressing p (at s w fall v ∷ h) ≡ addressing_after (addressing p h) s w fall) → addressing_after (addressing p h) s w fall ≡ addressing p (at s w fall v ∷ h)
+pub addressing_by : (p : Plan) (h : List Edge) (s : ℕ) (w : Wire) (fall : Bool) (v : Option Cycle) → has_wire (Slot s) w ≡ true
+    → (w ≡ Addr → addressing p (at s w fall v ∷ h) ≡ addressing_after (addressing p h) s w fall) → addressing_after (addressing p h) s w fall ≡ addressing p (at s w fall v ∷ h)
 addressing_by p h s Addr fall v has on = sym (on refl)
 addressing_by p h s Br fall v has on = refl
 addressing_by p h s BgOut fall v has on = refl

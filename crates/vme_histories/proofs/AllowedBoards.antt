@@ -78,7 +78,8 @@ value_of version p h e l =
     let a = checked (is_well_formed e && has_driver p e.driver e.wire) NoSuchDriver _ l in
     and_right (has_wire e.driver e.wire) (has_value e.wire e.fall e.value) (and_left (is_well_formed e) (has_driver p e.driver e.wire) a.0)
 
-pub driven : (version : Version) (p : Plan) (h : List Edge) (s : ℕ) (r : Row) (w : Wire) (fall : Bool) (v : Option Cycle) → board p s ≡ Some r → verdict_but_full version p h (at s w fall v) ≡ Ok tt → IsDriven p h s r w fall v
+pub driven : (version : Version) (p : Plan) (h : List Edge) (s : ℕ) (r : Row) (w : Wire) (fall : Bool) (v : Option Cycle) → board p s ≡ Some r → verdict_but_full version p h (at s w fall v) ≡ Ok tt
+    → IsDriven p h s r w fall v
 driven version p h s r w fall v found l =
     let passed = all_passed version p h (Slot s) w fall v l in
     record {

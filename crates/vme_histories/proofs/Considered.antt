@@ -31,7 +31,8 @@ none_up_to test n below last k from to = by_place (k == n) refl
     by_place true is = let same : k ≡ n = grind (arith, nat_tests) in ap test same ∙ last
     by_place false is = let apart : k < n = grind (arith, nat_tests) in below k from apart
 
-pub next : (p : Plan) (s : ℕ) (a b : Option ℕ) → a ≡ find (λ t. nat_lt s t && is_some (board p t)) (up_to p.slots) → b ≡ find (λ t. nat_lt 0 t && is_some (board p t)) (up_to p.slots) → option_or a b ≡ next_board p s
+pub next : (p : Plan) (s : ℕ) (a b : Option ℕ) → a ≡ find (λ t. nat_lt s t && is_some (board p t)) (up_to p.slots) → b ≡ find (λ t. nat_lt 0 t && is_some (board p t)) (up_to p.slots)
+    → option_or a b ≡ next_board p s
 next p s a b is_a is_b =
     ap (λ o. option_or o b) is_a
     ∙ ap (λ o. option_or (find (λ t. nat_lt s t && is_some (board p t)) (up_to p.slots)) o) (is_b ∙ find_above_zero (λ t. is_some (board p t)) p.slots)
@@ -47,7 +48,8 @@ found_slot (row ∷ rows) s r e = found_first row r s (row.slot == s) (find (λ 
 
 -- the address group going on with an acknowledge, and with an access
 two_shown : (f : Cycle → Edge) (v t : Option ℕ) →
-    map f (option_to_list (option_map (λ x. Acknowledge x) v) ++ option_to_list (option_map (λ x. Access x) t)) ≡ map (λ x. f (Acknowledge x)) (option_to_list v) ++ map (λ x. f (Access x)) (option_to_list t)
+    map f (option_to_list (option_map (λ x. Acknowledge x) v) ++ option_to_list (option_map (λ x. Access x) t)) ≡ map (λ x. f (Acknowledge x)) (option_to_list v)
+    ++ map (λ x. f (Access x)) (option_to_list t)
 two_shown f None None = refl
 two_shown f None (Some t) = refl
 two_shown f (Some v) None = refl
@@ -68,7 +70,8 @@ goes_on p h s handled is = by_row (board p s) refl is
       row = r;
       handles = cc;
       shows =
-          ap (λ t. map (λ v. showing (Slot s) (Acknowledge v)) (option_to_list (wanted p h r)) ++ map (λ t. showing (Slot s) (Access t)) (option_to_list (next_board p t))) (sym (found_slot p.rows s r found))
+          ap (λ t. map (λ v. showing (Slot s) (Acknowledge v)) (option_to_list (wanted p h r)) ++ map (λ t. showing (Slot s) (Access t)) (option_to_list (next_board p t)))
+          (sym (found_slot p.rows s r found))
           ∙ sym (two_shown (showing (Slot s)) (wanted p h r) (next_board p r.slot))
           ∙ sym (ap (λ (o : Option Row). option_map_or (λ x. map (showing (Slot s)) (cycles_of p h x)) o []) found);
     }

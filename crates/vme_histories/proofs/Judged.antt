@@ -23,11 +23,13 @@ passed_by false x j k rest on e = absurd (cc)
 
 four_refused : (a b c d : Bool) (w x y z r : Refused) (rest : Judgement) → check a w (check b x (check c y (check d z (Ok tt)))) ≡ Err r → check a w (check b x (check c y (check d z rest))) ≡ Err r
 four_refused a b c d w x y z r rest =
-    refused_by a w r (check b x (check c y (check d z (Ok tt)))) (check b x (check c y (check d z rest))) (refused_by b x r (check c y (check d z (Ok tt))) (check c y (check d z rest)) (refused_by c y r (check d z (Ok tt)) (check d z rest) (refused_by d z r (Ok tt) rest (λ e. absurd (cc)))))
+    refused_by a w r (check b x (check c y (check d z (Ok tt)))) (check b x (check c y (check d z rest))) (refused_by b x r (check c y (check d z (Ok tt))) (check c y (check d z rest))
+    (refused_by c y r (check d z (Ok tt)) (check d z rest) (refused_by d z r (Ok tt) rest (λ e. absurd (cc)))))
 
 four_passed : (a b c d : Bool) (w x y z : Refused) (rest : Judgement) → check a w (check b x (check c y (check d z (Ok tt)))) ≡ Ok tt → check a w (check b x (check c y (check d z rest))) ≡ rest
 four_passed a b c d w x y z rest =
-    passed_by a w (check b x (check c y (check d z (Ok tt)))) (check b x (check c y (check d z rest))) rest (passed_by b x (check c y (check d z (Ok tt))) (check c y (check d z rest)) rest (passed_by c y (check d z (Ok tt)) (check d z rest) rest (passed_by d z (Ok tt) rest rest (λ e. refl))))
+    passed_by a w (check b x (check c y (check d z (Ok tt)))) (check b x (check c y (check d z rest))) rest (passed_by b x (check c y (check d z (Ok tt))) (check c y (check d z rest)) rest
+    (passed_by c y (check d z (Ok tt)) (check d z rest) rest (passed_by d z (Ok tt) rest rest (λ e. refl))))
 
 module _ (version : Version) (p : Plan) (h : List Edge) (e : Edge) where
   abbrev exists : Bool

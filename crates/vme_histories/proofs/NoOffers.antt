@@ -131,11 +131,13 @@ module _ (version : Version) (p : Plan) (h : List Edge) where
     last_false true false c denied = refl
     last_false false b c denied = refl
 
-    pub answer_closed : (r : Row) → board p s ≡ Some r → own Dtack ≡ false → is_access_to r.slot (shown p h) ≡ false → iack_in p h (Slot s) ≡ false → is_open version p h (turned h (Slot s) Dtack) ≡ false
+    pub answer_closed : (r : Row) → board p s ≡ Some r → own Dtack ≡ false → is_access_to r.slot (shown p h) ≡ false → iack_in p h (Slot s) ≡ false
+        → is_open version p h (turned h (Slot s) Dtack) ≡ false
     answer_closed r found dtack other none =
         closed (Slot s) Dtack false dtack (last_false (line p h DataStrobe) (line p h AddressStrobe) (may_answer (readings p h (Slot s)) (shown p h)) (answers_none r (shown p h) found other none))
 
-    pub interrupter_closed : is_open version p h (turned h (Slot s) Dtack) ≡ false → own Irq ≡ true → is_served p h (Slot s) ≡ false → own IackOut ≡ false → iack_in p h (Slot s) ≡ false → offered_on version p h (Slot s) interrupter_wires ≡ []
+    pub interrupter_closed : is_open version p h (turned h (Slot s) Dtack) ≡ false → own Irq ≡ true → is_served p h (Slot s) ≡ false → own IackOut ≡ false → iack_in p h (Slot s) ≡ false
+        → offered_on version p h (Slot s) interrupter_wires ≡ []
     interrupter_closed answer irq unserved iackout none =
         three_closed (is_open version p h) (turned h (Slot s) Irq) (turned h (Slot s) IackOut) (turned h (Slot s) Dtack)
         (closed (Slot s) Irq true irq unserved)
@@ -144,7 +146,8 @@ module _ (version : Version) (p : Plan) (h : List Edge) where
 
     pub interrupter_lacking : (r : Row) → board p s ≡ Some r → r.interrupter ≡ None → is_open version p h (turned h (Slot s) Dtack) ≡ false → offered_on version p h (Slot s) interrupter_wires ≡ []
     interrupter_lacking r found none answer =
-        let lacks : option_map_or (λ (x : Row). is_some x.interrupter) (board p s) false ≡ false = ap (λ (o : Option Row). option_map_or (λ x. is_some x.interrupter) o false) found ∙ ap (λ (o : Option InterrupterRow). is_some o) none in
+        let lacks : option_map_or (λ (x : Row). is_some x.interrupter) (board p s) false ≡ false = ap (λ (o : Option Row). option_map_or (λ x. is_some x.interrupter) o false) found
+        ∙ ap (λ (o : Option InterrupterRow). is_some o) none in
         three_closed (is_open version p h) (turned h (Slot s) Irq) (turned h (Slot s) IackOut) (turned h (Slot s) Dtack)
         (lacking (turned h (Slot s) Irq) lacks) (lacking (turned h (Slot s) IackOut) lacks) answer
 
@@ -164,12 +167,14 @@ parts_joined version p h s =
     let f = flat_map (considered p h (Slot s)) in
     sym (ap (λ (t : List Edge). t ++ filter (is_open version p h) (f interrupter_wires)) (filter-append (is_open version p h) (f requester_wires) (f master_wires)))
     ∙ sym (filter-append (is_open version p h) (f requester_wires ++ f master_wires) (f interrupter_wires))
-    ∙ ap (λ (t : List Edge). filter (is_open version p h) t) (joined (f requester_wires) (considered p h (Slot s) Addr) (turned h (Slot s) AddressStrobe) (turned h (Slot s) DataStrobe) (f interrupter_wires))
+    ∙ ap (λ (t : List Edge). filter (is_open version p h) t) (joined (f requester_wires) (considered p h (Slot s) Addr) (turned h (Slot s) AddressStrobe)
+    (turned h (Slot s) DataStrobe) (f interrupter_wires))
   where
     joined : (a x : List Edge) (b c : Edge) (d : List Edge) → (a ++ (x ++ b ∷ c ∷ [])) ++ d ≡ a ++ (x ++ b ∷ c ∷ d)
     joined a x b c d = rw (append_assoc, append_assoc) refl
 
-pub none_waits : (version : Version) (p : Plan) (h : List Edge) (s : ℕ) → offered_on version p h (Slot s) requester_wires ≡ [] → offered_on version p h (Slot s) master_wires ≡ [] → offered_on version p h (Slot s) interrupter_wires ≡ [] → offered_but_full version p h (Slot s) ≡ []
+pub none_waits : (version : Version) (p : Plan) (h : List Edge) (s : ℕ) → offered_on version p h (Slot s) requester_wires ≡ [] → offered_on version p h (Slot s) master_wires ≡ []
+    → offered_on version p h (Slot s) interrupter_wires ≡ [] → offered_but_full version p h (Slot s) ≡ []
 none_waits version p h s a b c = sym (parts_joined version p h s) ∙ rw (a, b, c)
 
 -- a slot without a board

@@ -38,7 +38,8 @@ module _ (b : State) (es : List Edge) where
 
   all_refused : (e : Edge) → is_ok (at_end true e) ≡ false
   all_refused e =
-      four_err (is_well_formed e && has_driver b.plan e.driver e.wire) (is_other_state (drive b.history e.driver e.wire) e.fall) (rule b.version (readings b.plan b.history e.driver) e.wire e.fall e.value).1 (settled b.version b.plan b.history e)
+      four_err (is_well_formed e && has_driver b.plan e.driver e.wire) (is_other_state (drive b.history e.driver e.wire) e.fall) (rule b.version (readings b.plan b.history e.driver) e.wire e.fall
+      e.value).1 (settled b.version b.plan b.history e)
       NoSuchDriver AlreadyThere (Rule (rule b.version (readings b.plan b.history e.driver) e.wire e.fall e.value).0) (NotSettled (settling b.version b.plan b.history e.wire e.fall).0) TraceFull
 
   abbrev accepted_at : Bool → List Edge

@@ -54,14 +54,16 @@ by_parts version s row noted pins d Dtack false v own = refl
 by_parts version s row noted pins d w f v own = absurd (cc)
 
 -- a state that comes from a list answers as the list says
-pub answers_over : (version : Version) (state : InterrupterState) (noted : List Noted) (pins : Pins) (e : Edge) → state ≡ interrupter_of state.slot state.row noted → is_of parts.Interrupter e.wire ≡ true →
+pub answers_over : (version : Version) (state : InterrupterState) (noted : List Noted) (pins : Pins) (e : Edge) → state ≡ interrupter_of state.slot state.row noted
+    → is_of parts.Interrupter e.wire ≡ true →
     ruling One (local state pins) e ≡ ruling version (over state.slot state.row noted pins) e
 answers_over version state noted pins e same own =
     let P : InterrupterState → Type 0 = λ i. ruling One (local i pins) e ≡ ruling version (over state.slot state.row noted pins) e in
     subst P (sym same) (by_parts version state.slot state.row noted pins e.driver e.wire e.fall e.value own)
 
 -- a state that comes from a list answers as the list says, for an edge of the wire x, which is w
-pub rules_over : (version : Version) (state : InterrupterState) (noted : List Noted) (pins : Pins) (d : Driver) (w x : Wire) (f : Bool) (v : Option Cycle) → state ≡ interrupter_of state.slot state.row noted → w ≡ x → is_of parts.Interrupter x ≡ true →
+pub rules_over : (version : Version) (state : InterrupterState) (noted : List Noted) (pins : Pins) (d : Driver) (w x : Wire) (f : Bool) (v : Option Cycle) → state ≡ interrupter_of state.slot state.row
+    noted → w ≡ x → is_of parts.Interrupter x ≡ true →
     ruling_on One (local state pins) x f v ≡ ruling_on version (over state.slot state.row noted pins) w f v
 rules_over version state noted pins d w x f v same is own =
     answers_over version state noted pins (edge d x f v) same own

@@ -256,7 +256,8 @@ impl Interrupter {
     /// E3 if the rule's guard fails.
     #[inline(always)]
     pub fn may(&self, edge: Edge, pins: Pins) -> Result<(), Refused>
-        ensures other { is_of parts.Interrupter edge.wire ≡ false → result ≡ Err Refused.NoSuchDriver }
+        ensures other { is_of parts.Interrupter edge.wire ≡ false
+            → result ≡ Err Refused.NoSuchDriver }
         ensures own { (version : Version) (noted : List Noted) →
             self.now ≡ interrupter_of self.now.slot self.now.row noted →
             is_of parts.Interrupter edge.wire ≡ true →

@@ -1,5 +1,5 @@
 //! Logs, and the memory of a worker.
-ghost use Rattle.std.specs.Prelude.{◌≡◌, ◌+◌, ◌-◌, ◌*◌, ◌<◌, ◌≤◌, ◌++◌, [], ◌∷◌, IfOk, OnOk, Some, length, slice_get, true, vec_capacity};
+ghost use Rattle.std.specs.Prelude.{◌≡◌, ◌+◌, ◌-◌, ◌*◌, ◌^◌, ◌<◌, ◌≤◌, ◌++◌, [], ◌∷◌, IfOk, OnOk, Some, length, slice_get, true, vec_capacity};
 ghost use Rattle.std.specs.Int.{div_ceil};
 ghost use Rattle.vme_model.specs.Signals.{is_well_formed};
 ghost use Rattle.vme_lock.specs.Logs.{Filling};
@@ -34,7 +34,7 @@ impl<'r> Model for Log<'r> {
 impl<'r> Log<'r> {
     /// The log of these edges.
     pub(crate) fn new(edges: Vec<Code, Lease<'r>>) -> Log<'r>
-        requires { length edges.items < 4294967296 }
+        requires { length edges.items < 2 ^ 32 }
         ensures { result ≡ edges.entry.items }
     {
         Log { edges }

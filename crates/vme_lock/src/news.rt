@@ -3,7 +3,7 @@
 //!
 //! No clause speaks of what is announced, since no proof follows a value through an atomic. If a
 //! worker does not ask, all that it knows is from its last look.
-ghost use Rattle.std.specs.Prelude.{◌≡◌, ◌<◌, ◌≤◌, ◌+◌, ◌↔◌, ◌==◌, IsTrue, min};
+ghost use Rattle.std.specs.Prelude.{◌≡◌, ◌<◌, ◌≤◌, ◌+◌, ◌-◌, ◌^◌, ◌↔◌, ◌==◌, IsTrue, min};
 
 use crate::held::Held;
 use crate::seats::Rig;
@@ -53,9 +53,9 @@ impl News {
     }
 
     /// Announces how many edges the history has. It takes what lies under the lock, so it can only
-    /// be called in a hold, and it is called in that which made the last edge. So a later hold never
-    /// shows fewer edges than were announced, and whoever reads the number after a hold finds the
-    /// edge of that hold too.
+    /// be called in a hold, and it is called in that which made the last edge. So a later hold
+    /// never shows fewer edges than were announced, and whoever reads the number after a hold finds
+    /// the edge of that hold too.
     #[inline(always)]
     pub(crate) fn post_edges<L: Rig>(&self, held: &Held<'_, L>) {
         self.edges.store(held.backplane.len(), Ordering::SeqCst);
@@ -104,7 +104,10 @@ impl Idle {
     /// the driver for which it waits has a processor again; nothing ensures that they suffice. If a
     /// worker has ended, that may be the driver, and nobody sleeps any more.
     pub(crate) fn wait<R: Wait>(&mut self, rt: &R, news: &News)
-        ensures { self.new ≡ record { seen = self.old.seen; turns = min (self.old.turns + 1) 4294967295 } }
+        ensures { self.new ≡ record {
+          seen = self.old.seen;
+          turns = min (self.old.turns + 1) (2 ^ 32 - 1);
+        } }
     {
         self.turns = self.turns.saturating_add(1);
         if self.is_nap() && !news.has_ended.load(Ordering::SeqCst) {

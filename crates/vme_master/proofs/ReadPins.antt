@@ -22,7 +22,8 @@ use Rattle.vme_master.specs.Local.{master_readings, SayThePins}
 alike : (o p b c fall : Bool) (n : ℕ) → o ≡ p → b ≡ c → check (is_other_state o fall) AlreadyThere (check b (Rule n) (Ok tt)) ≡ check (is_other_state p fall) AlreadyThere (check c (Rule n) (Ok tt))
 alike o p b c fall n e f = cc
 
-module _ (version : Version) (s : ℕ) (row : RequesterRow) (handler : Levels) (own : Wire → Bool) (cycles : ℕ) (has_strobed : Bool) (pins : Pins) (holds_bus : Bool) (r : Readings) (says : SayThePins row handler own cycles has_strobed pins holds_bus r) where
+module _ (version : Version) (s : ℕ) (row : RequesterRow) (handler : Levels) (own : Wire → Bool) (cycles : ℕ) (has_strobed : Bool) (pins : Pins) (holds_bus : Bool) (r : Readings)
+    (says : SayThePins row handler own cycles has_strobed pins holds_bus r) where
   abbrev t : Readings
   t = master_readings s row handler own cycles has_strobed pins holds_bus
 
@@ -41,6 +42,7 @@ module _ (version : Version) (s : ℕ) (row : RequesterRow) (handler : Levels) (
   reads_pins Addr false v own = alike _ _ _ _ false 19 (sym (says.own_wires Addr refl)) (cc (says.own_wires AddressStrobe refl, says.own_wires DataStrobe refl, says.strobed))
   reads_pins AddressStrobe true v own = alike _ _ _ _ true 16 (sym (says.own_wires AddressStrobe refl)) (cc (says.own_wires Addr refl, says.address_strobe))
   reads_pins AddressStrobe false v own = alike _ _ _ _ false 20 (sym (says.own_wires AddressStrobe refl)) (cc (says.own_wires Addr refl))
-  reads_pins DataStrobe true v own = alike _ _ _ _ true 17 (sym (says.own_wires DataStrobe refl)) (cc (says.own_wires AddressStrobe refl, says.own_wires Addr refl, says.dtack, says.berr, says.strobed))
+  reads_pins DataStrobe true v own = alike _ _ _ _ true 17 (sym (says.own_wires DataStrobe refl))
+      (cc (says.own_wires AddressStrobe refl, says.own_wires Addr refl, says.dtack, says.berr, says.strobed))
   reads_pins DataStrobe false v own = alike _ _ _ _ false 18 (sym (says.own_wires DataStrobe refl)) (cc (says.dtack, says.berr))
   reads_pins w fall v own = absurd (cc)

@@ -34,7 +34,8 @@ other : (a fall : Bool) → (if fall then not a else a) ≡ true → a ≡ not f
 other a true e = not_true a e
 other a false e = e
 
-pub all_passed : (version : Version) (p : Plan) (h : List Edge) (d : Driver) (w : Wire) (fall : Bool) (v : Option Cycle) → verdict_but_full version p h (record { driver = d; wire = w; fall = fall; value = v }) ≡ Ok tt → Passed version p h d w fall v
+pub all_passed : (version : Version) (p : Plan) (h : List Edge) (d : Driver) (w : Wire) (fall : Bool) (v : Option Cycle) → verdict_but_full version p h
+    (record { driver = d; wire = w; fall = fall; value = v }) ≡ Ok tt → Passed version p h d w fall v
 all_passed version p h d w fall v l =
     let a = checked _ NoSuchDriver _ l in
     let b = checked _ AlreadyThere _ a.1 in

@@ -27,7 +27,8 @@ pub same_part : (test : ℕ → Bool) (a b n : ℕ) → ((t : ℕ) → test t �
 same_part test a b zero h = refl
 same_part test a b (suc n) h = same_head (test (suc n)) refl (same_part test a b n (λ t e l. h t e (omega arith)))
   where
-    same_head : (x : Bool) → test (suc n) ≡ x → low_part test a n ≡ low_part test b n → (if x && nat_lt (suc n) a then suc n ∷ low_part test a n else low_part test a n) ≡ (if x && nat_lt (suc n) b then suc n ∷ low_part test b n else low_part test b n)
+    same_head : (x : Bool) → test (suc n) ≡ x → low_part test a n ≡ low_part test b n → (if x && nat_lt (suc n) a then suc n ∷ low_part test a n else low_part test a n)
+        ≡ (if x && nat_lt (suc n) b then suc n ∷ low_part test b n else low_part test b n)
     same_head true e rest = cc (h (suc n) e (omega arith), rest)
     same_head false e rest = rest
 
@@ -39,7 +40,8 @@ more_part test hi s (suc n) e from to above gap = ⊎_elim (λ (l : s < suc n). 
     later : s < suc n → low_part test (suc s) n ≡ s ∷ low_part test hi n → low_part test (suc s) (suc n) ≡ s ∷ low_part test hi (suc n)
     later l r = skip (test (suc n)) r
       where
-        skip : (x : Bool) → low_part test (suc s) n ≡ s ∷ low_part test hi n → (if x && nat_lt (suc n) (suc s) then suc n ∷ low_part test (suc s) n else low_part test (suc s) n) ≡ s ∷ (if x && nat_lt (suc n) hi then suc n ∷ low_part test hi n else low_part test hi n)
+        skip : (x : Bool) → low_part test (suc s) n ≡ s ∷ low_part test hi n → (if x && nat_lt (suc n) (suc s) then suc n ∷ low_part test (suc s) n else low_part test (suc s) n) ≡ s
+            ∷ (if x && nat_lt (suc n) hi then suc n ∷ low_part test hi n else low_part test hi n)
         skip true rest = cc (rest, not_less (suc n) (suc s) (omega arith), not_less (suc n) hi (omega arith))
         skip false rest = rest
 
@@ -58,7 +60,8 @@ part_of test k (suc n) =
     ∙ reverse-append (filter (λ t. nat_lt t k) (filter test (up_to n))) (filter (λ t. nat_lt t k) (filter test (suc n ∷ [])))
     ∙ last (test (suc n)) (nat_lt (suc n) k) refl (part_of test k n)
   where
-    last : (x y : Bool) → nat_lt (suc n) k ≡ y → reverse (filter (λ t. nat_lt t k) (filter test (up_to n))) ≡ low_part test k n → reverse (filter (λ t. nat_lt t k) (if x then suc n ∷ [] else [])) ++ reverse (filter (λ t. nat_lt t k) (filter test (up_to n))) ≡ (if x && nat_lt (suc n) k then suc n ∷ low_part test k n else low_part test k n)
+    last : (x y : Bool) → nat_lt (suc n) k ≡ y → reverse (filter (λ t. nat_lt t k) (filter test (up_to n))) ≡ low_part test k n → reverse (filter (λ t. nat_lt t k) (if x then suc n ∷ [] else []))
+        ++ reverse (filter (λ t. nat_lt t k) (filter test (up_to n))) ≡ (if x && nat_lt (suc n) k then suc n ∷ low_part test k n else low_part test k n)
     last true true e rest = cc (e, rest)
     last true false e rest = cc (e, rest)
     last false y e rest = rest
@@ -85,17 +88,21 @@ IsBelowTo test n s (Some p) = IsGreatestTo test n s p
 
 below_to : (test : ℕ → Bool) (n s : ℕ) → IsBelowTo test n s (find (λ t. nat_lt t s) (reverse (filter test (up_to n))))
 below_to test zero s = λ t e from to l. omega arith
-below_to test (suc n) s = subst (λ xs. IsBelowTo test (suc n) s (find (λ t. nat_lt t s) xs)) (sym (ap reverse (filter-append test (up_to n) (suc n ∷ [])) ∙ reverse-append (filter test (up_to n)) (filter test (suc n ∷ [])))) (first (test (suc n)) refl (nat_lt (suc n) s) refl _ (below_to test n s))
+below_to test (suc n) s = subst (λ xs. IsBelowTo test (suc n) s (find (λ t. nat_lt t s) xs))
+    (sym (ap reverse (filter-append test (up_to n) (suc n ∷ [])) ∙ reverse-append (filter test (up_to n)) (filter test (suc n ∷ []))))
+    (first (test (suc n)) refl (nat_lt (suc n) s) refl _ (below_to test n s))
   where
     next : (found : Option ℕ) → (test (suc n) ≡ true → s ≤ suc n) → IsBelowTo test n s found → IsBelowTo test (suc n) s found
     next None out r = λ t e from to l. r t e from (still out t e to l) l
       where
         still : (test (suc n) ≡ true → s ≤ suc n) → (t : ℕ) → test t ≡ true → t ≤ suc n → t < s → t ≤ n
-        still out t e to l = ⊎_elim (λ (x : t < suc n). omega arith) (λ (y : suc n ≤ t). let same : t ≡ suc n = omega arith in absurd (omega (arith, out (subst (λ x. test x ≡ true) same e)))) (cases_lt t (suc n))
+        still out t e to l = ⊎_elim (λ (x : t < suc n). omega arith) (λ (y : suc n ≤ t). let same : t ≡ suc n = omega arith in absurd (omega (arith, out (subst (λ x. test x ≡ true) same e))))
+            (cases_lt t (suc n))
     next (Some p) out r = record { passes = r.passes; below = r.below; greatest = λ t e from to l. r.greatest t e from (still out t e to l) l }
       where
         still : (test (suc n) ≡ true → s ≤ suc n) → (t : ℕ) → test t ≡ true → t ≤ suc n → t < s → t ≤ n
-        still out t e to l = ⊎_elim (λ (x : t < suc n). omega arith) (λ (y : suc n ≤ t). let same : t ≡ suc n = omega arith in absurd (omega (arith, out (subst (λ x. test x ≡ true) same e)))) (cases_lt t (suc n))
+        still out t e to l = ⊎_elim (λ (x : t < suc n). omega arith) (λ (y : suc n ≤ t). let same : t ≡ suc n = omega arith in absurd (omega (arith, out (subst (λ x. test x ≡ true) same e))))
+            (cases_lt t (suc n))
 
     not_lt : nat_lt (suc n) s ≡ false → s ≤ suc n
     not_lt f = grind (arith, nat_tests)
@@ -103,8 +110,10 @@ below_to test (suc n) s = subst (λ xs. IsBelowTo test (suc n) s (find (λ t. na
     is_lt : nat_lt (suc n) s ≡ true → suc n < s
     is_lt f = grind (arith, nat_tests)
 
-    first : (x : Bool) → test (suc n) ≡ x → (y : Bool) → nat_lt (suc n) s ≡ y → (rest : List ℕ) → IsBelowTo test n s (find (λ t. nat_lt t s) rest) → IsBelowTo test (suc n) s (find (λ t. nat_lt t s) (reverse (if x then suc n ∷ [] else []) ++ rest))
-    first true e true f rest r = subst (λ z. IsBelowTo test (suc n) s (cond z (Some (suc n)) (find (λ t. nat_lt t s) rest))) (sym f) (record { passes = e; below = is_lt f; greatest = λ t e' from to l. omega arith })
+    first : (x : Bool) → test (suc n) ≡ x → (y : Bool) → nat_lt (suc n) s ≡ y → (rest : List ℕ) → IsBelowTo test n s (find (λ t. nat_lt t s) rest) → IsBelowTo test (suc n) s
+        (find (λ t. nat_lt t s) (reverse (if x then suc n ∷ [] else []) ++ rest))
+    first true e true f rest r = subst (λ z. IsBelowTo test (suc n) s (cond z (Some (suc n)) (find (λ t. nat_lt t s) rest))) (sym f)
+        (record { passes = e; below = is_lt f; greatest = λ t e' from to l. omega arith })
     first true e false f rest r = subst (λ z. IsBelowTo test (suc n) s (cond z (Some (suc n)) (find (λ t. nat_lt t s) rest))) (sym f) (next (find (λ t. nat_lt t s) rest) (λ e'. not_lt f) r)
     first false e y f rest r = next (find (λ t. nat_lt t s) rest) (λ e'. absurd (cc (e, e'))) r
 
@@ -136,7 +145,8 @@ last_of test (suc n) m l =
     let split = ap reverse (filter-append test (up_to n) (suc n ∷ [])) ∙ reverse-append (filter test (up_to n)) (filter test (suc n ∷ [])) in
     ap (find (λ t. nat_lt t (suc m))) split ∙ both (test (suc n)) (last_of test n m (omega arith)) ∙ sym (ap (find (λ s. true)) split)
   where
-    both : (x : Bool) → find (λ t. nat_lt t (suc m)) (reverse (filter test (up_to n))) ≡ find (λ s. true) (reverse (filter test (up_to n))) → find (λ t. nat_lt t (suc m)) (reverse (if x then suc n ∷ [] else []) ++ reverse (filter test (up_to n))) ≡ find (λ s. true) (reverse (if x then suc n ∷ [] else []) ++ reverse (filter test (up_to n)))
+    both : (x : Bool) → find (λ t. nat_lt t (suc m)) (reverse (filter test (up_to n))) ≡ find (λ s. true) (reverse (filter test (up_to n))) → find (λ t. nat_lt t (suc m))
+        (reverse (if x then suc n ∷ [] else []) ++ reverse (filter test (up_to n))) ≡ find (λ s. true) (reverse (if x then suc n ∷ [] else []) ++ reverse (filter test (up_to n)))
     both true e = cc (less (suc n) (suc m) (omega arith))
     both false e = e
 

@@ -29,7 +29,8 @@ use Rattle.vme_model.proofs.Grants.{Now}
 use Rattle.vme_model.proofs.Cycles.{cycle_wires, busy_of, interrupts, masters, has_board, Going, one_holder, line_from, board_there, within, chain_below, chain_asks, chain_member}
 use Rattle.vme_model.proofs.AllowedEdges.{Passed, all_passed}
 
-answer_alone : (p : Plan) (h : List Edge) (a : Answer) (x y : Driver) → IsAnswer (interrupts p) (masters p) (has_board p) p.slots (λ s. drive h (Slot s) Dtack) (drive h Controller Berr) a → Answers h x → Answers h y → x ≡ y
+answer_alone : (p : Plan) (h : List Edge) (a : Answer) (x y : Driver) → IsAnswer (interrupts p) (masters p) (has_board p) p.slots (λ s. drive h (Slot s) Dtack) (drive h Controller Berr) a
+    → Answers h x → Answers h y → x ≡ y
 answer_alone p h a Controller Controller i e f = refl
 answer_alone p h a Controller (Slot t) i e f = absurd (cc (i.berr_by e, i.dtack_by t f))
 answer_alone p h a (Slot s) Controller i e f = absurd (cc (i.dtack_by s e, i.berr_by f))
@@ -48,7 +49,8 @@ roak_in : (found : Option InterrupterRow) (f : IrqKind → Bool) → option_map_
 roak_in None f e = absurd (cc)
 roak_in (Some i) f e = ap f (kind_of i.kind e)
 
-roak_of : (found : Option Row) (f : IrqKind → Bool) → option_map_or (λ i. is_roak i.kind) (option_and_then (λ r. r.interrupter) found) false ≡ true → option_map_or (λ r. option_map_or (λ i. f i.kind) r.interrupter false) found false ≡ f Roak
+roak_of : (found : Option Row) (f : IrqKind → Bool) → option_map_or (λ i. is_roak i.kind) (option_and_then (λ r. r.interrupter) found) false ≡ true
+    → option_map_or (λ r. option_map_or (λ i. f i.kind) r.interrupter false) found false ≡ f Roak
 roak_of None f e = absurd (cc)
 roak_of (Some r) f e = roak_in r.interrupter f e
 
@@ -58,7 +60,8 @@ is_served_of p h s e = roak_of (board p s) (served_since_request p h (Slot s)) e
 pending_of : (p : Plan) (h : List Edge) (s level : ℕ) → has_roak p s ≡ true → is_pending (readings p h (Slot s)) level ≡ true → served_since_request p h (Slot s) Roak ≡ false
 pending_of p h s level e r = sym (is_served_of p h s e) ∙ not_true _ (and_right _ _ r)
 
-answer_pending : (p : Plan) (h : List Edge) (s : ℕ) (sh : Option Cycle) → is_acknowledge sh ≡ true → may_answer (readings p h (Slot s)) sh ≡ true → (level : ℕ) × (is_pending (readings p h (Slot s)) level ≡ true)
+answer_pending : (p : Plan) (h : List Edge) (s : ℕ) (sh : Option Cycle) → is_acknowledge sh ≡ true → may_answer (readings p h (Slot s)) sh ≡ true → (level : ℕ)
+    × (is_pending (readings p h (Slot s)) level ≡ true)
 answer_pending p h s None e r = absurd (cc)
 answer_pending p h s (Some (Acknowledge level)) e r = (level, and_right _ _ r)
 answer_pending p h s (Some (Access x)) e r = absurd (cc)
@@ -69,7 +72,8 @@ serves_same (Some (Acknowledge level)) = refl
 serves_same (Some (Access x)) = refl
 
 -- an answer to an acknowledge is the first since the request
-first_answer : (version : Version) (p : Plan) (h : List Edge) (s : ℕ) → has_roak p s ≡ true → (d : Driver) (w : Wire) (fall : Bool) (v : Option Cycle) → Passed version p h d w fall v → (is_fall_of (Slot s) Dtack (record { driver = d; wire = w; fall = fall; value = v }) && is_acknowledge (shown p h)) ≡ true → served_since_request p h (Slot s) Roak ≡ false
+first_answer : (version : Version) (p : Plan) (h : List Edge) (s : ℕ) → has_roak p s ≡ true → (d : Driver) (w : Wire) (fall : Bool) (v : Option Cycle) → Passed version p h d w fall v
+    → (is_fall_of (Slot s) Dtack (record { driver = d; wire = w; fall = fall; value = v }) && is_acknowledge (shown p h)) ≡ true → served_since_request p h (Slot s) Roak ≡ false
 first_answer version p h s roak (Slot u) Dtack true v a e =
     let same = same_number u s (and_left _ _ e) in
     let q = answer_pending p h u (shown p h) (and_right (u == s) _ e) (and_right _ _ a.rule) in
@@ -78,7 +82,9 @@ first_answer version p h s roak Controller w fall v a e = absurd (never (and_rig
 first_answer version p h s roak (Slot u) w true v a e = absurd (never e)
 first_answer version p h s roak (Slot u) w false v a e = absurd (never e)
 
-once_more : (x y z z' before : Bool) (n : ℕ) → z ≡ z' → ((y && z') ≡ true → before ≡ false) → (before ≡ false → n ≡ 0) → (before ≡ true → n ≡ 1) → ((if x then false else ((y && z) || before)) ≡ false → (if x then 0 else (if y && z' then 1 else 0) + n) ≡ 0) × ((if x then false else ((y && z) || before)) ≡ true → (if x then 0 else (if y && z' then 1 else 0) + n) ≡ 1)
+once_more : (x y z z' before : Bool) (n : ℕ) → z ≡ z' → ((y && z') ≡ true → before ≡ false) → (before ≡ false → n ≡ 0) → (before ≡ true → n ≡ 1)
+    → ((if x then false else ((y && z) || before)) ≡ false → (if x then 0 else (if y && z' then 1 else 0) + n) ≡ 0)
+    × ((if x then false else ((y && z) || before)) ≡ true → (if x then 0 else (if y && z' then 1 else 0) + n) ≡ 1)
 once_more true y z z' before n e f a b = (λ h. refl, λ h. absurd (cc))
 once_more false true true z' before n e f a b = (λ h. absurd (cc), λ h. grind (arith, f, a, e))
 once_more false true false z' before n e f a b = (λ h. grind (arith, a, e, h), λ h. grind (arith, b, e, h))
@@ -88,7 +94,9 @@ once_of : (version : Version) (p : Plan) (h : List Edge) (s : ℕ) → has_roak 
 once_of version p [] s roak l = record { none = λ e. refl; one = λ e. absurd (cc) }
 once_of version p (e ∷ h) s roak l =
     let i = once_of version p h s roak l.1 in
-    let q = once_more (is_fall_of (Slot s) Irq e) (is_fall_of (Slot s) Dtack e) (serves Roak (shown p h)) (is_acknowledge (shown p h)) (served_since_request p h (Slot s) Roak) (answers_since_request p h s) (serves_same (shown p h)) (first_answer version p h s roak e.driver e.wire e.fall e.value (all_passed version p h e.driver e.wire e.fall e.value l.0)) i.none i.one in
+    let q = once_more (is_fall_of (Slot s) Irq e) (is_fall_of (Slot s) Dtack e) (serves Roak (shown p h)) (is_acknowledge (shown p h)) (served_since_request p h (Slot s) Roak)
+    (answers_since_request p h s) (serves_same (shown p h)) (first_answer version p h s roak e.driver e.wire e.fall e.value (all_passed version p h e.driver e.wire e.fall e.value l.0)) i.none
+    i.one in
     record { none = q.0; one = q.1 }
 
 at_most_once : (p : Plan) (h : List Edge) (s : ℕ) → IsOnce p h s → answers_since_request p h s ≤ 1
@@ -113,14 +121,16 @@ one_answers p h go x y a b =
 pub answers_once : (version : Version) (p : Plan) (h : List Edge) → IsLegal version p h → AnswersOnce p h
 answers_once version p h l s roak = at_most_once p h s (once_of version p h s roak l)
 
-answer_is : (version : Version) (p : Plan) → IsInRange p → (h : List Edge) (s level : ℕ) (v : Option Cycle) → Passed version p h (Slot s) Dtack true v → shown p h ≡ Some (Acknowledge level) → Going p h → IsRightfulAnswer p h s level
+answer_is : (version : Version) (p : Plan) → IsInRange p → (h : List Edge) (s level : ℕ) (v : Option Cycle) → Passed version p h (Slot s) Dtack true v → shown p h ≡ Some (Acknowledge level)
+    → Going p h → IsRightfulAnswer p h s level
 answer_is version p range h s level v a sh go =
     let r = and_left _ _ a.rule in
     let w = line_from p range h DataStrobe (and_left _ _ r) in
     let m : may_answer (readings p h (Slot s)) (Some (Acknowledge level)) ≡ true = subst (λ x. may_answer (readings p h (Slot s)) x ≡ true) sh (and_right _ _ a.rule) in
     let i = and_left (iack_in p h (Slot s)) _ (and_left _ _ m) in
     let o = chain_member p range h s i in
-    let f = rightful_answer (interrupts p) (masters p) (has_board p) p.slots (cycle_wires p h) (busy_of h) s w.0 level _ sh o (board_there p (drives Dtack) s a.exists) a.before (chain_below p range s) (not_true _ (and_right (iack_in p h (Slot s)) _ (and_left _ _ m))) (chain_asks p range h s i) w.1 go in
+    let f = rightful_answer (interrupts p) (masters p) (has_board p) p.slots (cycle_wires p h) (busy_of h) s w.0 level _ sh o (board_there p (drives Dtack) s a.exists) a.before (chain_below p range s)
+    (not_true _ (and_right (iack_in p h (Slot s)) _ (and_left _ _ m))) (chain_asks p range h s i) w.1 go in
     record {
       member = contained (interrupts p) p.slots s o (within p range s o).0 (within p range s o).1;
       began = f.acknowledged ∙ sh;
@@ -129,14 +139,17 @@ answer_is version p range h s level v a sh go =
       requests = and_right _ _ m;
     }
 
-pub answers_rightfully : (version : Version) (p : Plan) → IsInRange p → (h : List Edge) (d : Driver) (w : Wire) (fall : Bool) (v : Option Cycle) → Passed version p h d w fall v → Going p h → AnswersRightfully p h (record { driver = d; wire = w; fall = fall; value = v })
+pub answers_rightfully : (version : Version) (p : Plan) → IsInRange p → (h : List Edge) (d : Driver) (w : Wire) (fall : Bool) (v : Option Cycle) → Passed version p h d w fall v → Going p h
+    → AnswersRightfully p h (record { driver = d; wire = w; fall = fall; value = v })
 answers_rightfully version p range h (Slot s) Dtack true v a go k level e sh = subst (λ x. IsRightfulAnswer p h x level) (same_number s k e) (answer_is version p range h s level v a sh go)
 answers_rightfully version p range h Controller w true v a go k level e sh = absurd (never (and_right (is_same_wire w Dtack) false e))
 answers_rightfully version p range h (Slot s) w true v a go k level e sh = absurd (never e)
 answers_rightfully version p range h d w false v a go k level e sh = absurd (never e)
 
-pub releases_answered : (version : Version) (p : Plan) (h : List Edge) (d : Driver) (w : Wire) (fall : Bool) (v : Option Cycle) → Passed version p h d w fall v → IsLegal version p h → ReleasesAnswered p h (record { driver = d; wire = w; fall = fall; value = v })
-releases_answered version p h (Slot s) Irq false v a l k e roak = subst (λ x. has_roak p x ≡ true → answers_since_request p h x ≡ 1) (same_number s k e) (λ r. (once_of version p h s r l).one (sym (is_served_of p h s r) ∙ a.rule)) roak
+pub releases_answered : (version : Version) (p : Plan) (h : List Edge) (d : Driver) (w : Wire) (fall : Bool) (v : Option Cycle) → Passed version p h d w fall v → IsLegal version p h
+    → ReleasesAnswered p h (record { driver = d; wire = w; fall = fall; value = v })
+releases_answered version p h (Slot s) Irq false v a l k e roak = subst (λ x. has_roak p x ≡ true → answers_since_request p h x ≡ 1) (same_number s k e)
+    (λ r. (once_of version p h s r l).one (sym (is_served_of p h s r) ∙ a.rule)) roak
 releases_answered version p h Controller w false v a l k e roak = absurd (never (and_right (is_same_wire w Irq) false e))
 releases_answered version p h (Slot s) w false v a l k e roak = absurd (never e)
 releases_answered version p h d w true v a l k e roak = absurd (never e)

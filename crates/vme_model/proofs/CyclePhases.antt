@@ -148,7 +148,8 @@ module _ (on master brd : ℕ → Bool) (slots : ℕ) where
   fresh_high v t high i = cc (high t i.is_master, i.strobe_low)
 
   -- an address group goes on, or shows something else
-  pub group_falls : (v : CycleWires) (busy : ℕ → Bool) (group' : ℕ → Bool) (sh : Option Cycle) (s : ℕ) → Sets group' v.group s true → busy s ≡ true → StrobesHigh v → Cycled v busy → Cycled (record v { group = group'; shown = sh }) busy
+  pub group_falls : (v : CycleWires) (busy : ℕ → Bool) (group' : ℕ → Bool) (sh : Option Cycle) (s : ℕ) → Sets group' v.group s true → busy s ≡ true → StrobesHigh v → Cycled v busy
+      → Cycled (record v { group = group'; shown = sh }) busy
   group_falls v busy group' sh s u b high (Quiet, i) = (
     Quiet,
     record {
@@ -163,7 +164,8 @@ module _ (on master brd : ℕ → Bool) (slots : ℕ) where
   group_falls v busy group' sh s u b high (Asking t g hi, i) = absurd (fresh_high v t high i.opened)
   group_falls v busy group' sh s u b high (Done t, i) = absurd (fresh_high v t high i.opened)
 
-  pub group_rises : (v : CycleWires) (busy : ℕ → Bool) (group' : ℕ → Bool) (sh : Option Cycle) (s : ℕ) → Sets group' v.group s false → v.strobe s ≡ true → v.dstrobe s ≡ false → v.strobed s ≡ true → Cycled v busy → Cycled (record v { group = group'; shown = sh }) busy
+  pub group_rises : (v : CycleWires) (busy : ℕ → Bool) (group' : ℕ → Bool) (sh : Option Cycle) (s : ℕ) → Sets group' v.group s false → v.strobe s ≡ true → v.dstrobe s ≡ false → v.strobed s ≡ true
+      → Cycled v busy → Cycled (record v { group = group'; shown = sh }) busy
   group_rises v busy group' sh s u l d k (Quiet, i) = absurd (cc (i.strobe_high s))
   group_rises v busy group' sh s u l d k (Fresh t, i) = let e = i.opened.strobe_only s l in absurd (cc (i.unstrobed, e))
   group_rises v busy group' sh s u l d k (Asking t g hi, i) = let e = i.opened.strobe_only s l in absurd (cc (i.dstrobe_low, e))
@@ -179,7 +181,8 @@ module _ (on master brd : ℕ → Bool) (slots : ℕ) where
   )
 
   -- a cycle begins
-  pub strobe_falls : (v : CycleWires) (busy : ℕ → Bool) (strobe' strobed' : ℕ → Bool) (s : ℕ) → OneHolder busy → Sets strobe' v.strobe s true → strobed' s ≡ false → v.group s ≡ true → master s ≡ true → StrobesHigh v → v.iack ≡ false → ((t : ℕ) → on t ≡ true → v.iout t ≡ false) → Cycled v busy → Cycled (record v { strobe = strobe'; strobed = strobed' }) busy
+  pub strobe_falls : (v : CycleWires) (busy : ℕ → Bool) (strobe' strobed' : ℕ → Bool) (s : ℕ) → OneHolder busy → Sets strobe' v.strobe s true → strobed' s ≡ false → v.group s ≡ true → master s ≡ true
+      → StrobesHigh v → v.iack ≡ false → ((t : ℕ) → on t ≡ true → v.iout t ≡ false) → Cycled v busy → Cycled (record v { strobe = strobe'; strobed = strobed' }) busy
   strobe_falls v busy strobe' strobed' s one u k l m high c o (Quiet, i) = (
     Fresh s,
     record {
@@ -198,7 +201,8 @@ module _ (on master brd : ℕ → Bool) (slots : ℕ) where
   strobe_falls v busy strobe' strobed' s one u k l m high c o (Done t, i) = absurd (fresh_high v t high i.opened)
 
   -- a cycle ends
-  pub strobe_rises : (v : CycleWires) (busy : ℕ → Bool) (strobe' : ℕ → Bool) (s : ℕ) → Sets strobe' v.strobe s false → v.strobe s ≡ true → v.group s ≡ false → Cycled v busy → Cycled (record v { strobe = strobe' }) busy
+  pub strobe_rises : (v : CycleWires) (busy : ℕ → Bool) (strobe' : ℕ → Bool) (s : ℕ) → Sets strobe' v.strobe s false → v.strobe s ≡ true → v.group s ≡ false → Cycled v busy
+      → Cycled (record v { strobe = strobe' }) busy
   strobe_rises v busy strobe' s u l e (Quiet, i) = absurd (cc (i.strobe_high s))
   strobe_rises v busy strobe' s u l e (Fresh t, i) = let f = i.opened.strobe_only s l in absurd (cc (i.group_on, f))
   strobe_rises v busy strobe' s u l e (Asking t g hi, i) = let f = i.opened.strobe_only s l in absurd (cc (i.group_on, f))
@@ -220,7 +224,8 @@ module _ (on master brd : ℕ → Bool) (slots : ℕ) where
       gone t o w h = let f = o.group_only w h in let f' = o.strobe_only s l in cc (f, f', e, h)
 
   -- the data strobe falls
-  pub dstrobe_falls : (v : CycleWires) (busy : ℕ → Bool) (dstrobe' strobed' : ℕ → Bool) (s : ℕ) → Sets dstrobe' v.dstrobe s true → strobed' s ≡ true → v.strobe s ≡ true → v.dstrobe s ≡ false → v.strobed s ≡ false → ((t : ℕ) → brd t ≡ true → v.dtack t ≡ false) → v.berr ≡ false → Cycled v busy → Cycled (record v { dstrobe = dstrobe'; strobed = strobed' }) busy
+  pub dstrobe_falls : (v : CycleWires) (busy : ℕ → Bool) (dstrobe' strobed' : ℕ → Bool) (s : ℕ) → Sets dstrobe' v.dstrobe s true → strobed' s ≡ true → v.strobe s ≡ true → v.dstrobe s ≡ false
+      → v.strobed s ≡ false → ((t : ℕ) → brd t ≡ true → v.dtack t ≡ false) → v.berr ≡ false → Cycled v busy → Cycled (record v { dstrobe = dstrobe'; strobed = strobed' }) busy
   dstrobe_falls v busy dstrobe' strobed' s u k l d n quiet fine (Quiet, i) = absurd (cc (i.strobe_high s))
   dstrobe_falls v busy dstrobe' strobed' s u k l d n quiet fine (Asking t g hi, i) = let e = i.opened.strobe_only s l in absurd (cc (i.dstrobe_low, e))
   dstrobe_falls v busy dstrobe' strobed' s u k l d n quiet fine (Done t, i) = let e = i.opened.strobe_only s l in absurd (cc (i.was_strobed, e))
@@ -248,7 +253,8 @@ module _ (on master brd : ℕ → Bool) (slots : ℕ) where
       }
 
   -- the data strobe rises
-  pub dstrobe_rises : (v : CycleWires) (busy : ℕ → Bool) (dstrobe' : ℕ → Bool) (s : ℕ) → Sets dstrobe' v.dstrobe s false → v.dstrobe s ≡ true → Cycled v busy → Cycled (record v { dstrobe = dstrobe' }) busy
+  pub dstrobe_rises : (v : CycleWires) (busy : ℕ → Bool) (dstrobe' : ℕ → Bool) (s : ℕ) → Sets dstrobe' v.dstrobe s false → v.dstrobe s ≡ true → Cycled v busy
+      → Cycled (record v { dstrobe = dstrobe' }) busy
   dstrobe_rises v busy dstrobe' s u l (Quiet, i) = absurd (cc (i.dstrobe_high s))
   dstrobe_rises v busy dstrobe' s u l (Fresh t, i) = absurd (cc (i.dstrobe_high s))
   dstrobe_rises v busy dstrobe' s u l (Done t, i) = absurd (cc (i.dstrobe_high s))
@@ -309,13 +315,15 @@ module _ (on master brd : ℕ → Bool) (slots : ℕ) where
   not_both (Some (Access x)) g hi t a b n = cc (a, b, n)
 
   -- nobody has answered yet if a slot that has not answered is asked
-  silent : (v : CycleWires) (m s : ℕ) (g : Bool) (hi : ℕ) (a : Answer) → v.dtack s ≡ false → brd s ≡ true → CanAnswer v.shown g hi s → ((t : ℕ) → a ≡ By t → v.dtack t ≡ true) → Justified v.shown g hi a → a ≡ Silent
+  silent : (v : CycleWires) (m s : ℕ) (g : Bool) (hi : ℕ) (a : Answer) → v.dtack s ≡ false → brd s ≡ true → CanAnswer v.shown g hi s → ((t : ℕ) → a ≡ By t → v.dtack t ≡ true)
+      → Justified v.shown g hi a → a ≡ Silent
   silent v m s g hi Silent d b c low j = refl
   silent v m s g hi (By t) d b c low j = let e = same_place v.shown g hi s t c j in absurd (cc (low t refl, e))
   silent v m s g hi Error d b c low j = absurd (not_both v.shown g hi s c b j)
 
   -- a board answers
-  answers_strobed : (v : CycleWires) (dtack' : ℕ → Bool) (answered' : Bool) (m s : ℕ) (g : Bool) (hi : ℕ) → Sets dtack' v.dtack s true → v.dtack s ≡ false → brd s ≡ true → CanAnswer v.shown g hi s → (i : IsAsking v m g hi) → i.answer ≡ Silent → IsAsking (record v { dtack = dtack'; answered = answered' }) m g hi
+  answers_strobed : (v : CycleWires) (dtack' : ℕ → Bool) (answered' : Bool) (m s : ℕ) (g : Bool) (hi : ℕ) → Sets dtack' v.dtack s true → v.dtack s ≡ false → brd s ≡ true → CanAnswer v.shown g hi s
+      → (i : IsAsking v m g hi) → i.answer ≡ Silent → IsAsking (record v { dtack = dtack'; answered = answered' }) m g hi
   answers_strobed v dtack' answered' m s g hi u d b c i e = record {
     answer = By s;
     answers = record { dtack_by = λ t h. by t h; berr_by = λ h. absurd (cc (i.answers.berr_by h, e)); boards = λ t h. grind (arith, u t, i.answers.boards t, b) };
@@ -339,7 +347,8 @@ module _ (on master brd : ℕ → Bool) (slots : ℕ) where
       by : (t : ℕ) → dtack' t ≡ true → By s ≡ By t
       by t h = ⊎_elim (λ (x : (t ≡ s) × (dtack' t ≡ true)). ap By (sym x.0)) (λ (x : (t ≢ s) × (dtack' t ≡ v.dtack t)). absurd (cc (i.answers.dtack_by t (sym x.1 ∙ h), e))) (u t)
 
-  pub dtack_falls : (v : CycleWires) (busy : ℕ → Bool) (dtack' : ℕ → Bool) (answered' : Bool) (s w : ℕ) (found : Option ℕ) → Sets dtack' v.dtack s true → v.dtack s ≡ false → brd s ≡ true → v.dstrobe w ≡ true → IsAsked v v.shown s found → Cycled v busy → Cycled (record v { dtack = dtack'; answered = answered' }) busy
+  pub dtack_falls : (v : CycleWires) (busy : ℕ → Bool) (dtack' : ℕ → Bool) (answered' : Bool) (s w : ℕ) (found : Option ℕ) → Sets dtack' v.dtack s true → v.dtack s ≡ false → brd s ≡ true → v.dstrobe w
+      ≡ true → IsAsked v v.shown s found → Cycled v busy → Cycled (record v { dtack = dtack'; answered = answered' }) busy
   dtack_falls v busy dtack' answered' s w found u d b l a (Quiet, i) = absurd (cc (i.dstrobe_high w))
   dtack_falls v busy dtack' answered' s w found u d b l a (Fresh t, i) = absurd (cc (i.dstrobe_high w))
   dtack_falls v busy dtack' answered' s w found u d b l a (Done t, i) = absurd (cc (i.dstrobe_high w))
@@ -354,9 +363,40 @@ module _ (on master brd : ℕ → Bool) (slots : ℕ) where
       still t h = grind (arith, u t)
 
   pub dtack_rises : (v : CycleWires) (busy : ℕ → Bool) (dtack' : ℕ → Bool) (s : ℕ) → Sets dtack' v.dtack s false → DataHigh v → Cycled v busy → Cycled (record v { dtack = dtack' }) busy
-  dtack_rises v busy dtack' s u high (Quiet, i) = (Quiet, record { answer = i.answer; answers = fewer v dtack' i.answer s u i.answers; strobe_high = i.strobe_high; dstrobe_high = i.dstrobe_high; group_busy = i.group_busy })
-  dtack_rises v busy dtack' s u high (Fresh t, i) = (Fresh t, record { answer = i.answer; answers = fewer v dtack' i.answer s u i.answers; opened = i.opened; group_on = i.group_on; dstrobe_high = i.dstrobe_high; unstrobed = i.unstrobed; iack_high = i.iack_high; iout_high = i.iout_high })
-  dtack_rises v busy dtack' s u high (Done t, i) = (Done t, record { answer = i.answer; answers = fewer v dtack' i.answer s u i.answers; opened = i.opened; dstrobe_high = i.dstrobe_high; was_strobed = i.was_strobed })
+  dtack_rises v busy dtack' s u high (Quiet, i) = (
+    Quiet,
+    record {
+      answer = i.answer;
+      answers = fewer v dtack' i.answer s u i.answers;
+      strobe_high = i.strobe_high;
+      dstrobe_high = i.dstrobe_high;
+      group_busy = i.group_busy;
+    },
+  )
+  dtack_rises v busy dtack' s u high (Fresh t, i) = (
+    Fresh t,
+    record {
+      answer = i.answer;
+      answers = fewer v dtack' i.answer s u i.answers;
+      opened = i.opened;
+      group_on = i.group_on;
+      dstrobe_high =
+          i.dstrobe_high;
+      unstrobed = i.unstrobed;
+      iack_high = i.iack_high;
+      iout_high = i.iout_high;
+    },
+  )
+  dtack_rises v busy dtack' s u high (Done t, i) = (
+    Done t,
+    record {
+      answer = i.answer;
+      answers = fewer v dtack' i.answer s u i.answers;
+      opened = i.opened;
+      dstrobe_high = i.dstrobe_high;
+      was_strobed = i.was_strobed;
+    },
+  )
   dtack_rises v busy dtack' s u high (Asking t g hi, i) = absurd (cc (high t i.opened.is_master, i.dstrobe_low))
 
   -- the bus timer ends a cycle
@@ -394,7 +434,8 @@ module _ (on master brd : ℕ → Bool) (slots : ℕ) where
       (is_true g (λ h. omega (arith, i.from_start h, i.iout_below p a.0.passes a.1)), λ t o. omega (arith, a.0.greatest t o (omega (arith, within t o)), i.iout_below p a.0.passes a.1))
   none_can v m g hi (Some (Access x)) found within a i = a
 
-  pub berr_falls : (v : CycleWires) (busy : ℕ → Bool) (w : ℕ) (found : Option ℕ) → ((t : ℕ) → on t ≡ true → t ≤ slots) → ((t : ℕ) → brd t ≡ true → v.dtack t ≡ false) → v.dstrobe w ≡ true → IsUnanswerable v v.shown found → Cycled v busy → Cycled (record v { berr = true }) busy
+  pub berr_falls : (v : CycleWires) (busy : ℕ → Bool) (w : ℕ) (found : Option ℕ) → ((t : ℕ) → on t ≡ true → t ≤ slots) → ((t : ℕ) → brd t ≡ true → v.dtack t ≡ false) → v.dstrobe w ≡ true
+      → IsUnanswerable v v.shown found → Cycled v busy → Cycled (record v { berr = true }) busy
   berr_falls v busy w found within quiet l a (Quiet, i) = absurd (cc (i.dstrobe_high w))
   berr_falls v busy w found within quiet l a (Fresh t, i) = absurd (cc (i.dstrobe_high w))
   berr_falls v busy w found within quiet l a (Done t, i) = absurd (cc (i.dstrobe_high w))
@@ -404,8 +445,29 @@ module _ (on master brd : ℕ → Bool) (slots : ℕ) where
   no_error v a i = record { dtack_by = i.dtack_by; berr_by = λ h. absurd (cc); boards = i.boards }
 
   pub berr_rises : (v : CycleWires) (busy : ℕ → Bool) → DataHigh v → Cycled v busy → Cycled (record v { berr = false }) busy
-  berr_rises v busy high (Quiet, i) = (Quiet, record { answer = i.answer; answers = no_error v i.answer i.answers; strobe_high = i.strobe_high; dstrobe_high = i.dstrobe_high; group_busy = i.group_busy })
-  berr_rises v busy high (Fresh t, i) = (Fresh t, record { answer = i.answer; answers = no_error v i.answer i.answers; opened = i.opened; group_on = i.group_on; dstrobe_high = i.dstrobe_high; unstrobed = i.unstrobed; iack_high = i.iack_high; iout_high = i.iout_high })
+  berr_rises v busy high (Quiet, i) = (
+    Quiet,
+    record {
+      answer = i.answer;
+      answers = no_error v i.answer i.answers;
+      strobe_high = i.strobe_high;
+      dstrobe_high = i.dstrobe_high;
+      group_busy = i.group_busy;
+    },
+  )
+  berr_rises v busy high (Fresh t, i) = (
+    Fresh t,
+    record {
+      answer = i.answer;
+      answers = no_error v i.answer i.answers;
+      opened = i.opened;
+      group_on = i.group_on;
+      dstrobe_high = i.dstrobe_high;
+      unstrobed = i.unstrobed;
+      iack_high = i.iack_high;
+      iout_high = i.iout_high;
+    },
+  )
   berr_rises v busy high (Done t, i) = (Done t, record { answer = i.answer; answers = no_error v i.answer i.answers; opened = i.opened; dstrobe_high = i.dstrobe_high; was_strobed = i.was_strobed })
   berr_rises v busy high (Asking t g hi, i) = absurd (cc (high t i.opened.is_master, i.dstrobe_low))
 
@@ -419,7 +481,8 @@ module _ (on master brd : ℕ → Bool) (slots : ℕ) where
   silent_before (Some (Acknowledge level)) g hi Error e f j = absurd (cc (j.0, f))
   silent_before (Some (Access x)) g hi Error e f j = absurd (cc)
 
-  iack_falls_strobed : (v : CycleWires) (m : ℕ) (g : Bool) (hi : ℕ) → v.iack ≡ false → is_acknowledge v.shown ≡ true → IsAsking v m g hi → IsAsking (record v { iack = true; acknowledged = v.shown; answered = false; passers = [] }) m true 0
+  iack_falls_strobed : (v : CycleWires) (m : ℕ) (g : Bool) (hi : ℕ) → v.iack ≡ false → is_acknowledge v.shown ≡ true → IsAsking v m g hi
+      → IsAsking (record v { iack = true; acknowledged = v.shown; answered = false; passers = [] }) m true 0
   iack_falls_strobed v m g hi h a i =
       let e = silent_before v.shown g hi i.answer a (sym i.iack_is ∙ h) i.justified in
       record {
@@ -442,7 +505,8 @@ module _ (on master brd : ℕ → Bool) (slots : ℕ) where
         unanswered = λ _ _. refl;
       }
 
-  pub iack_falls : (v : CycleWires) (busy : ℕ → Bool) (w : ℕ) → v.iack ≡ false → is_acknowledge v.shown ≡ true → v.dstrobe w ≡ true → Cycled v busy → Cycled (record v { iack = true; acknowledged = v.shown; answered = false; passers = [] }) busy
+  pub iack_falls : (v : CycleWires) (busy : ℕ → Bool) (w : ℕ) → v.iack ≡ false → is_acknowledge v.shown ≡ true → v.dstrobe w ≡ true → Cycled v busy
+      → Cycled (record v { iack = true; acknowledged = v.shown; answered = false; passers = [] }) busy
   iack_falls v busy w h a l (Quiet, i) = absurd (cc (i.dstrobe_high w))
   iack_falls v busy w h a l (Fresh t, i) = absurd (cc (i.dstrobe_high w))
   iack_falls v busy w h a l (Done t, i) = absurd (cc (i.dstrobe_high w))
@@ -456,7 +520,9 @@ module _ (on master brd : ℕ → Bool) (slots : ℕ) where
   iack_rises v busy high (Done t, i) = absurd (fresh_high v t high i.opened)
 
   -- slot s passes the acknowledge on
-  iout_falls_strobed : ((t : ℕ) → on t ≡ true → (1 ≤ t) × (t ≤ slots)) → (v : CycleWires) (iout' : ℕ → Bool) (passers' : List (Driver × Option Cycle × Bool)) (m s : ℕ) (g : Bool) (hi level : ℕ) → Sets iout' v.iout s true → passers' ≡ (Slot s, v.shown, false) ∷ v.passers → v.shown ≡ Some (Acknowledge level) → on s ≡ true → brd s ≡ true → v.dtack s ≡ false → IsFront g hi s → IsAsking v m g hi → IsAsking (record v { iout = iout'; passers = passers' }) m g (suc s)
+  iout_falls_strobed : ((t : ℕ) → on t ≡ true → (1 ≤ t) × (t ≤ slots)) → (v : CycleWires) (iout' : ℕ → Bool) (passers' : List (Driver × Option Cycle × Bool)) (m s : ℕ) (g : Bool) (hi level : ℕ)
+      → Sets iout' v.iout s true → passers' ≡ (Slot s, v.shown, false) ∷ v.passers → v.shown ≡ Some (Acknowledge level) → on s ≡ true → brd s ≡ true → v.dtack s ≡ false → IsFront g hi s
+      → IsAsking v m g hi → IsAsking (record v { iout = iout'; passers = passers' }) m g (suc s)
   iout_falls_strobed within v iout' passers' m s g hi level u tr sh o b d f i =
       let c : CanAnswer v.shown g hi s = subst (λ x. CanAnswer x g hi s) (sym sh) (o, f.low, f.above, f.all) in
       let e = silent v m s g hi i.answer d b c i.dtack_low i.justified in
@@ -486,7 +552,9 @@ module _ (on master brd : ℕ → Bool) (slots : ℕ) where
       each : (t : ℕ) → on t ≡ true → t < suc s → iout' t ≡ true
       each t w l = grind (arith, u t, i.iout_each t w, f.all t w)
 
-  pub iout_falls : ((t : ℕ) → on t ≡ true → (1 ≤ t) × (t ≤ slots)) → (v : CycleWires) (busy : ℕ → Bool) (iout' : ℕ → Bool) (passers' : List (Driver × Option Cycle × Bool)) (s w level : ℕ) (found : Option ℕ) → Sets iout' v.iout s true → passers' ≡ (Slot s, v.shown, false) ∷ v.passers → v.shown ≡ Some (Acknowledge level) → on s ≡ true → brd s ≡ true → v.dtack s ≡ false → IsBelow on s found → v.iout s ≡ false → iack_before v found ≡ true → v.dstrobe w ≡ true → Cycled v busy → Cycled (record v { iout = iout'; passers = passers' }) busy
+  pub iout_falls : ((t : ℕ) → on t ≡ true → (1 ≤ t) × (t ≤ slots)) → (v : CycleWires) (busy : ℕ → Bool) (iout' : ℕ → Bool) (passers' : List (Driver × Option Cycle × Bool)) (s w level : ℕ)
+      (found : Option ℕ) → Sets iout' v.iout s true → passers' ≡ (Slot s, v.shown, false) ∷ v.passers → v.shown ≡ Some (Acknowledge level) → on s ≡ true → brd s ≡ true → v.dtack s ≡ false
+      → IsBelow on s found → v.iout s ≡ false → iack_before v found ≡ true → v.dstrobe w ≡ true → Cycled v busy → Cycled (record v { iout = iout'; passers = passers' }) busy
   iout_falls within v busy iout' passers' s w level found u tr sh o b d f high low l (Quiet, i) = absurd (cc (i.dstrobe_high w))
   iout_falls within v busy iout' passers' s w level found u tr sh o b d f high low l (Fresh t, i) = absurd (cc (i.dstrobe_high w))
   iout_falls within v busy iout' passers' s w level found u tr sh o b d f high low l (Done t, i) = absurd (cc (i.dstrobe_high w))
@@ -501,7 +569,17 @@ module _ (on master brd : ℕ → Bool) (slots : ℕ) where
 
   -- the bus is taken, and given up
   pub taken : (v : CycleWires) (busy busy' : ℕ → Bool) (s : ℕ) → Sets busy' busy s true → Cycled v busy → Cycled v busy'
-  taken v busy busy' s u (Quiet, i) = (Quiet, record { answer = i.answer; answers = i.answers; strobe_high = i.strobe_high; dstrobe_high = i.dstrobe_high; group_busy = λ t h. grind (arith, u t, i.group_busy t h) })
+  taken v busy busy' s u (Quiet, i) = (
+    Quiet,
+    record {
+      answer = i.answer;
+      answers = i.answers;
+      strobe_high = i.strobe_high;
+      dstrobe_high = i.dstrobe_high;
+      group_busy =
+          λ t h. grind (arith, u t, i.group_busy t h);
+    },
+  )
   taken v busy busy' s u (Fresh t, i) = (Fresh t, i)
   taken v busy busy' s u (Asking t g hi, i) = (Asking t g hi, i)
   taken v busy busy' s u (Done t, i) = (Done t, i)
@@ -548,7 +626,8 @@ module _ (on master brd : ℕ → Bool) (slots : ℕ) where
     pub unanswered : v.answered ≡ false
     pub passers : v.passers ≡ unasked v.shown (low_part on s slots)
 
-  rightful_strobed : (v : CycleWires) (m s : ℕ) (g : Bool) (hi level : ℕ) → v.shown ≡ Some (Acknowledge level) → on s ≡ true → brd s ≡ true → v.dtack s ≡ false → IsFront g hi s → IsAsking v m g hi → RightfulAnswer v s
+  rightful_strobed : (v : CycleWires) (m s : ℕ) (g : Bool) (hi level : ℕ) → v.shown ≡ Some (Acknowledge level) → on s ≡ true → brd s ≡ true → v.dtack s ≡ false → IsFront g hi s
+      → IsAsking v m g hi → RightfulAnswer v s
   rightful_strobed v m s g hi level sh o b d f i =
       let c : CanAnswer v.shown g hi s = subst (λ x. CanAnswer x g hi s) (sym sh) (o, f.low, f.above, f.all) in
       let above = f.above in
@@ -558,7 +637,8 @@ module _ (on master brd : ℕ → Bool) (slots : ℕ) where
         passers = i.passers f.low ∙ ap (unasked v.shown) (same_part on hi s slots (λ t x l. same_less t hi s (λ y. omega arith) (f.all t x)));
       }
 
-  pub rightful_answer : (v : CycleWires) (busy : ℕ → Bool) (s w level : ℕ) (found : Option ℕ) → v.shown ≡ Some (Acknowledge level) → on s ≡ true → brd s ≡ true → v.dtack s ≡ false → IsBelow on s found → v.iout s ≡ false → iack_before v found ≡ true → v.dstrobe w ≡ true → Cycled v busy → RightfulAnswer v s
+  pub rightful_answer : (v : CycleWires) (busy : ℕ → Bool) (s w level : ℕ) (found : Option ℕ) → v.shown ≡ Some (Acknowledge level) → on s ≡ true → brd s ≡ true → v.dtack s ≡ false → IsBelow on s found
+      → v.iout s ≡ false → iack_before v found ≡ true → v.dstrobe w ≡ true → Cycled v busy → RightfulAnswer v s
   rightful_answer v busy s w level found sh o b d f high low l (Quiet, i) = absurd (cc (i.dstrobe_high w))
   rightful_answer v busy s w level found sh o b d f high low l (Fresh m, i) = absurd (cc (i.dstrobe_high w))
   rightful_answer v busy s w level found sh o b d f high low l (Done m, i) = absurd (cc (i.dstrobe_high w))

@@ -142,7 +142,8 @@ record IsReached (p : Plan) (h : List Edge) (s : ℕ) : Type 0 where
   member : interrupts p s ≡ true
   low : input p h chain.Iack s ≡ true
 
-reached_of : (p : Plan) → IsInRange p → (h : List Edge) (s : ℕ) (found : Option Row) → board p s ≡ found → option_map_or (λ r. is_some r.interrupter && input p h chain.Iack r.slot) found false ≡ true → IsReached p h s
+reached_of : (p : Plan) → IsInRange p → (h : List Edge) (s : ℕ) (found : Option Row) → board p s ≡ found → option_map_or (λ r. is_some r.interrupter && input p h chain.Iack r.slot) found
+    false ≡ true → IsReached p h s
 reached_of p range h s None e i = absurd (cc)
 reached_of p range h s (Some r) e i =
     let f = found_row (IsRowInRange p) p.rows s r range.rows e in
@@ -169,7 +170,8 @@ own_slot p range s x e =
     let f = found_row (IsRowInRange p) p.rows s b.row range.rows b.is_board in
     sym f.slot ∙ same_number b.row.slot x b.passes
 
-asked : (p : Plan) → IsInRange p → (h : List Edge) (s : ℕ) (sh : Option Cycle) → may_answer (readings p h (Slot s)) sh ≡ true → IsAsked (interrupts p) (masters p) (has_board p) p.slots (cycle_wires p h) sh s (upstream p chain.Iack s)
+asked : (p : Plan) → IsInRange p → (h : List Edge) (s : ℕ) (sh : Option Cycle) → may_answer (readings p h (Slot s)) sh ≡ true → IsAsked (interrupts p) (masters p) (has_board p) p.slots
+    (cycle_wires p h) sh s (upstream p chain.Iack s)
 asked p range h s None e = absurd (cc)
 asked p range h s (Some (Acknowledge level)) e =
     let i = and_left (iack_in p h (Slot s)) _ (and_left _ _ e) in
@@ -180,7 +182,8 @@ no_board : (found : Option Row) → is_none found ≡ true → is_some found ≡
 no_board None e = refl
 no_board (Some r) e = absurd (cc)
 
-unanswerable : (p : Plan) → IsInRange p → (h : List Edge) (sh : Option Cycle) → is_unanswerable p h sh ≡ true → IsUnanswerable (interrupts p) (masters p) (has_board p) p.slots (cycle_wires p h) sh (last_active p chain.Iack)
+unanswerable : (p : Plan) → IsInRange p → (h : List Edge) (sh : Option Cycle) → is_unanswerable p h sh ≡ true → IsUnanswerable (interrupts p) (masters p) (has_board p) p.slots (cycle_wires p h) sh
+    (last_active p chain.Iack)
 unanswerable p range h None e = absurd (cc)
 unanswerable p range h (Some (Acknowledge level)) e = (
   subst (IsBelow (interrupts p) (suc p.slots)) (last_of (interrupts p) p.slots p.slots (omega arith)) (is_below (interrupts p) p.slots (suc p.slots) (within p range)),
@@ -206,17 +209,21 @@ KeepsPhase version p d w fall = (h : List Edge) (v : Option Cycle) → Passed ve
 after_address : (version : Version) (p : Plan) → IsInRange p → (s : ℕ) → KeepsPhase version p (Slot s) Addr true
 after_address version p range s h v a now go =
     let r = and_left _ _ (and_left _ _ a.rule) in
-    group_falls (interrupts p) (masters p) (has_board p) p.slots (cycle_wires p h) (busy_of h) _ _ s (sets_slot (λ t. drive h (Slot t) Addr) s true) (and_left _ _ r) (strobes_high p range h (not_true _ (and_right _ _ r))) go
+    group_falls (interrupts p) (masters p) (has_board p) p.slots (cycle_wires p h) (busy_of h) _ _ s (sets_slot (λ t. drive h (Slot t) Addr) s true) (and_left _ _ r)
+    (strobes_high p range h (not_true _ (and_right _ _ r))) go
 
 after_address_off : (version : Version) (p : Plan) → IsInRange p → (s : ℕ) → KeepsPhase version p (Slot s) Addr false
 after_address_off version p range s h v a now go =
     let r = and_left _ _ a.rule in
-    group_rises (interrupts p) (masters p) (has_board p) p.slots (cycle_wires p h) (busy_of h) _ _ s (sets_slot (λ t. drive h (Slot t) Addr) s false) (and_left _ _ r) (not_true _ (and_right _ _ r)) (and_right _ _ a.rule) go
+    group_rises (interrupts p) (masters p) (has_board p) p.slots (cycle_wires p h) (busy_of h) _ _ s (sets_slot (λ t. drive h (Slot t) Addr) s false) (and_left _ _ r) (not_true _ (and_right _ _ r))
+    (and_right _ _ a.rule) go
 
 after_strobe : (version : Version) (p : Plan) → IsInRange p → (s : ℕ) → KeepsPhase version p (Slot s) AddressStrobe true
 after_strobe version p range s h v a now go =
     let clear = all_clear (λ t. drive h (Slot t) IackOut) (active p chain.Iack) (and_right _ _ a.settles) in
-    strobe_falls (interrupts p) (masters p) (has_board p) p.slots (cycle_wires p h) (busy_of h) _ _ s (one_holder version p h now) (sets_slot (λ t. drive h (Slot t) AddressStrobe) s true) (fresh s) (and_left _ _ a.rule) a.exists (strobes_high p range h (not_true _ (and_right _ _ a.rule))) (not_true _ (and_left _ _ a.settles)) (λ t o. clear t (contained (interrupts p) p.slots t o (within p range t o).0 (within p range t o).1)) go
+    strobe_falls (interrupts p) (masters p) (has_board p) p.slots (cycle_wires p h) (busy_of h) _ _ s (one_holder version p h now) (sets_slot (λ t. drive h (Slot t) AddressStrobe) s true) (fresh s)
+    (and_left _ _ a.rule) a.exists (strobes_high p range h (not_true _ (and_right _ _ a.rule))) (not_true _ (and_left _ _ a.settles))
+    (λ t o. clear t (contained (interrupts p) p.slots t o (within p range t o).0 (within p range t o).1)) go
   where
     fresh : (s : ℕ) → (if s == s then false else (false || has_strobed h (Slot s))) ≡ false
     fresh s = cc (self s)
@@ -230,7 +237,8 @@ after_data_strobe version p range s h v a now go =
     let r = and_left _ _ a.rule in
     let r2 = and_left _ _ r in
     let r3 = and_left _ _ r2 in
-    dstrobe_falls (interrupts p) (masters p) (has_board p) p.slots (cycle_wires p h) (busy_of h) _ _ s (sets_slot (λ t. drive h (Slot t) DataStrobe) s true) (now_strobed s) (and_left _ _ r3) a.before (not_true _ (and_right _ _ a.rule)) (dtack_high p range h (not_true _ (and_right _ _ r2))) (not_true _ (and_right _ _ r)) go
+    dstrobe_falls (interrupts p) (masters p) (has_board p) p.slots (cycle_wires p h) (busy_of h) _ _ s (sets_slot (λ t. drive h (Slot t) DataStrobe) s true) (now_strobed s) (and_left _ _ r3) a.before
+    (not_true _ (and_right _ _ a.rule)) (dtack_high p range h (not_true _ (and_right _ _ r2))) (not_true _ (and_right _ _ r)) go
   where
     now_strobed : (s : ℕ) → (s == s || has_strobed h (Slot s)) ≡ true
     now_strobed s = cc (self s)
@@ -243,7 +251,8 @@ after_answer : (version : Version) (p : Plan) → IsInRange p → (s : ℕ) → 
 after_answer version p range s h v a now go =
     let r = and_left _ _ a.rule in
     let w = line_from p range h DataStrobe (and_left _ _ r) in
-    dtack_falls (interrupts p) (masters p) (has_board p) p.slots (cycle_wires p h) (busy_of h) _ _ s w.0 _ (sets_slot (λ t. drive h (Slot t) Dtack) s true) a.before (board_there p (drives Dtack) s a.exists) w.1 (asked p range h s (shown p h) (and_right _ _ a.rule)) go
+    dtack_falls (interrupts p) (masters p) (has_board p) p.slots (cycle_wires p h) (busy_of h) _ _ s w.0 _ (sets_slot (λ t. drive h (Slot t) Dtack) s true) a.before
+    (board_there p (drives Dtack) s a.exists) w.1 (asked p range h s (shown p h) (and_right _ _ a.rule)) go
 
 after_answer_rise : (version : Version) (p : Plan) → IsInRange p → (s : ℕ) → KeepsPhase version p (Slot s) Dtack false
 after_answer_rise version p range s h v a now go =
@@ -256,7 +265,9 @@ after_acknowledge_pass version p range s h v a now go =
     let i = and_left (iack_in p h (Slot s)) _ r2 in
     let w = line_from p range h DataStrobe (and_right _ _ r) in
     let l = passes_on_of p h s (shown p h) refl (and_right _ _ a.rule) in
-    iout_falls (interrupts p) (masters p) (has_board p) p.slots (within p range) (cycle_wires p h) (busy_of h) _ _ s w.0 l.level _ (sets_slot (λ t. drive h (Slot t) IackOut) s true) (ap (λ b. (Slot s, shown p h, b) ∷ acknowledge_passes p h) l.unasked_now) l.shows (chain_member p range h s i) (board_there p (drives IackOut) s a.exists) (not_true _ (and_right (iack_in p h (Slot s)) _ r2)) (chain_below p range s) a.before (chain_asks p range h s i) w.1 go
+    iout_falls (interrupts p) (masters p) (has_board p) p.slots (within p range) (cycle_wires p h) (busy_of h) _ _ s w.0 l.level _ (sets_slot (λ t. drive h (Slot t) IackOut) s true)
+    (ap (λ b. (Slot s, shown p h, b) ∷ acknowledge_passes p h) l.unasked_now) l.shows (chain_member p range h s i) (board_there p (drives IackOut) s a.exists)
+    (not_true _ (and_right (iack_in p h (Slot s)) _ r2)) (chain_below p range s) a.before (chain_asks p range h s i) w.1 go
 
 after_acknowledge_pass_rise : (version : Version) (p : Plan) → IsInRange p → (s : ℕ) → KeepsPhase version p (Slot s) IackOut false
 after_acknowledge_pass_rise version p range s h v a now go =
@@ -268,7 +279,8 @@ after_take version p range s h v a now go =
 
 after_release : (version : Version) (p : Plan) → IsInRange p → (s : ℕ) → KeepsPhase version p (Slot s) Bbsy false
 after_release version p range s h v a now go =
-    given_up (interrupts p) (masters p) (has_board p) p.slots (cycle_wires p h) (busy_of h) _ s (one_holder version p h now) a.before (off (drive h (Slot s) Addr) (drive h (Slot s) AddressStrobe) (and_right _ _ (and_left _ _ a.rule))) go
+    given_up (interrupts p) (masters p) (has_board p) p.slots (cycle_wires p h) (busy_of h) _ s (one_holder version p h now) a.before (off (drive h (Slot s) Addr) (drive h (Slot s) AddressStrobe)
+    (and_right _ _ (and_left _ _ a.rule))) go
   where
     off : (x y : Bool) → (not x || y) ≡ true → y ≡ false → x ≡ false
     off x y e f = grind arith
@@ -276,7 +288,8 @@ after_release version p range s h v a now go =
 after_error : (version : Version) (p : Plan) → IsInRange p → KeepsPhase version p Controller Berr true
 after_error version p range h v a now go =
     let w = line_from p range h DataStrobe (and_left _ _ a.rule) in
-    berr_falls (interrupts p) (masters p) (has_board p) p.slots (cycle_wires p h) (busy_of h) w.0 _ (λ t o. (within p range t o).1) (dtack_high p range h (not_true _ (and_right _ _ a.rule))) w.1 (unanswerable p range h (shown p h) a.settles) go
+    berr_falls (interrupts p) (masters p) (has_board p) p.slots (cycle_wires p h) (busy_of h) w.0 _ (λ t o. (within p range t o).1) (dtack_high p range h (not_true _ (and_right _ _ a.rule))) w.1
+    (unanswerable p range h (shown p h) a.settles) go
 
 after_error_rise : (version : Version) (p : Plan) → IsInRange p → KeepsPhase version p Controller Berr false
 after_error_rise version p range h v a now go =
@@ -293,7 +306,8 @@ after_acknowledge_rise version p range h v a now go =
     iack_rises (interrupts p) (masters p) (has_board p) p.slots (cycle_wires p h) (busy_of h) (strobes_high p range h (not_true _ a.rule)) go
 
 -- after every edge that passed its tests
-step : (version : Version) (p : Plan) → IsInRange p → (h : List Edge) (d : Driver) (w : Wire) (fall : Bool) (v : Option Cycle) → Passed version p h d w fall v → Now version p h → Going p h → Going p (record { driver = d; wire = w; fall = fall; value = v } ∷ h)
+step : (version : Version) (p : Plan) → IsInRange p → (h : List Edge) (d : Driver) (w : Wire) (fall : Bool) (v : Option Cycle) → Passed version p h d w fall v → Now version p h → Going p h
+    → Going p (record { driver = d; wire = w; fall = fall; value = v } ∷ h)
 step version p range h (Slot s) Addr true v a now go = after_address version p range s h v a now go
 step version p range h (Slot s) Addr false v a now go = after_address_off version p range s h v a now go
 step version p range h (Slot s) AddressStrobe true v a now go = after_strobe version p range s h v a now go
@@ -330,4 +344,5 @@ going_of version p range [] l = (
     group_busy = λ t h. absurd (cc);
   },
 )
-going_of version p range (e ∷ h) l = step version p range h e.driver e.wire e.fall e.value (all_passed version p h e.driver e.wire e.fall e.value l.0) (now_of version p range h l.1) (going_of version p range h l.1)
+going_of version p range (e ∷ h) l = step version p range h e.driver e.wire e.fall e.value (all_passed version p h e.driver e.wire e.fall e.value l.0) (now_of version p range h l.1)
+    (going_of version p range h l.1)

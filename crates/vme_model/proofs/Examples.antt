@@ -109,7 +109,8 @@ release_under_a_grant_is_early f = f 1 3 None refl (record { part = omega arith;
 
 -- G15: slot 2 drives the address lines while a strobe is low
 abbrev before_address_in_a_cycle : List Edge
-before_address_in_a_cycle = fall (Slot 2) Bbsy ∷ fall Controller (Bg 2) ∷ rise (Slot 1) Bbsy ∷ fall (Slot 1) AddressStrobe ∷ shows 1 (Access 1) ∷ fall (Slot 2) Br ∷ rise (Slot 1) Br ∷ rise Controller (Bg 3) ∷ fall (Slot 1) Bbsy ∷ fall Controller (Bg 3) ∷ fall (Slot 1) Br ∷ []
+before_address_in_a_cycle = fall (Slot 2) Bbsy ∷ fall Controller (Bg 2) ∷ rise (Slot 1) Bbsy ∷ fall (Slot 1) AddressStrobe ∷ shows 1 (Access 1) ∷ fall (Slot 2) Br ∷ rise (Slot 1) Br
+    ∷ rise Controller (Bg 3) ∷ fall (Slot 1) Bbsy ∷ fall Controller (Bg 3) ∷ fall (Slot 1) Br ∷ []
 
 address_in_a_cycle : AreOthersAllowed One two_levels before_address_in_a_cycle (shows 2 (Access 1)) ([])
 address_in_a_cycle = record { accepted = refl; before = (refl, (refl, (refl, (refl, (refl, (refl, (refl, (refl, (refl, (refl, (refl, tt))))))))))); after = tt }
@@ -119,17 +120,24 @@ two_address f = omega (arith, f 1 2 refl refl)
 
 -- G25: slot 2 answers again while its request is low
 abbrev before_answer_again : List Edge
-before_answer_again = fall Controller Iack ∷ fall (Slot 1) DataStrobe ∷ fall (Slot 1) AddressStrobe ∷ shows 1 (Acknowledge 4) ∷ rise Controller Iack ∷ rise (Slot 1) AddressStrobe ∷ rise (Slot 1) Addr ∷ rise (Slot 2) Dtack ∷ rise (Slot 1) DataStrobe ∷ fall (Slot 2) Dtack ∷ fall Controller Iack ∷ fall (Slot 1) DataStrobe ∷ fall (Slot 1) AddressStrobe ∷ shows 1 (Acknowledge 4) ∷ fall (Slot 1) Bbsy ∷ fall Controller (Bg 3) ∷ fall (Slot 1) Br ∷ fall (Slot 2) Irq ∷ []
+before_answer_again = fall Controller Iack ∷ fall (Slot 1) DataStrobe ∷ fall (Slot 1) AddressStrobe ∷ shows 1 (Acknowledge 4) ∷ rise Controller Iack ∷ rise (Slot 1) AddressStrobe ∷ rise (Slot 1) Addr
+    ∷ rise (Slot 2) Dtack ∷ rise (Slot 1) DataStrobe ∷ fall (Slot 2) Dtack ∷ fall Controller Iack ∷ fall (Slot 1) DataStrobe ∷ fall (Slot 1) AddressStrobe ∷ shows 1 (Acknowledge 4)
+    ∷ fall (Slot 1) Bbsy ∷ fall Controller (Bg 3) ∷ fall (Slot 1) Br ∷ fall (Slot 2) Irq ∷ []
 
 answer_again : AreOthersAllowed One interrupters before_answer_again (fall (Slot 2) Dtack) ([])
-answer_again = record { accepted = refl; before = (refl, (refl, (refl, (refl, (refl, (refl, (refl, (refl, (refl, (refl, (refl, (refl, (refl, (refl, (refl, (refl, (refl, (refl, tt)))))))))))))))))); after = tt }
+answer_again = record {
+  accepted = refl;
+  before = (refl, (refl, (refl, (refl, (refl, (refl, (refl, (refl, (refl, (refl, (refl, (refl, (refl, (refl, (refl, (refl, (refl, (refl, tt))))))))))))))))));
+  after = tt;
+}
 
 answered_twice : AnswersOnce interrupters (fall (Slot 2) Dtack ∷ before_answer_again) → ⊥
 answered_twice f = omega (arith, f 2 refl)
 
 -- G25: slot 2 requests after it passed the acknowledge on, and then answers
 abbrev before_answer_after_pass : List Edge
-before_answer_after_pass = fall (Slot 2) Irq ∷ fall (Slot 2) IackOut ∷ fall Controller Iack ∷ fall (Slot 1) DataStrobe ∷ fall (Slot 1) AddressStrobe ∷ shows 1 (Acknowledge 4) ∷ fall (Slot 3) Irq ∷ fall (Slot 1) Bbsy ∷ fall Controller (Bg 3) ∷ fall (Slot 1) Br ∷ []
+before_answer_after_pass = fall (Slot 2) Irq ∷ fall (Slot 2) IackOut ∷ fall Controller Iack ∷ fall (Slot 1) DataStrobe ∷ fall (Slot 1) AddressStrobe ∷ shows 1 (Acknowledge 4) ∷ fall (Slot 3) Irq
+    ∷ fall (Slot 1) Bbsy ∷ fall Controller (Bg 3) ∷ fall (Slot 1) Br ∷ []
 
 answer_after_pass : AreOthersAllowed One interrupters before_answer_after_pass (fall (Slot 2) Dtack) ([])
 answer_after_pass = record { accepted = refl; before = (refl, (refl, (refl, (refl, (refl, (refl, (refl, (refl, (refl, (refl, tt)))))))))); after = tt }
@@ -158,7 +166,8 @@ access_answered_twice f = different (f Controller (Slot 1) refl refl)
 
 -- S2 with an acknowledge
 abbrev before_error_of_an_acknowledge : List Edge
-before_error_of_an_acknowledge = fall Controller Iack ∷ fall (Slot 1) DataStrobe ∷ fall (Slot 1) AddressStrobe ∷ shows 1 (Acknowledge 4) ∷ fall (Slot 1) Bbsy ∷ fall Controller (Bg 3) ∷ fall (Slot 1) Br ∷ fall (Slot 2) Irq ∷ []
+before_error_of_an_acknowledge = fall Controller Iack ∷ fall (Slot 1) DataStrobe ∷ fall (Slot 1) AddressStrobe ∷ shows 1 (Acknowledge 4) ∷ fall (Slot 1) Bbsy ∷ fall Controller (Bg 3)
+    ∷ fall (Slot 1) Br ∷ fall (Slot 2) Irq ∷ []
 
 error_of_an_acknowledge : AreOthersAllowed One interrupters before_error_of_an_acknowledge (fall Controller Berr) (fall (Slot 2) Dtack ∷ [])
 error_of_an_acknowledge = record { accepted = refl; before = (refl, (refl, (refl, (refl, (refl, (refl, (refl, (refl, tt)))))))); after = (refl, tt) }
@@ -171,10 +180,16 @@ acknowledge_answered_twice f = different_from_2 (f Controller (Slot 2) refl refl
 
 -- S1: a cycle begins before the acknowledge chain is high, and slot 2 answers the old acknowledge
 abbrev before_early_strobe : List Edge
-before_early_strobe = shows 1 (Acknowledge 4) ∷ fall (Slot 2) Irq ∷ rise (Slot 1) AddressStrobe ∷ rise (Slot 1) Addr ∷ rise (Slot 2) Irq ∷ rise (Slot 2) Dtack ∷ rise (Slot 1) DataStrobe ∷ fall (Slot 2) Dtack ∷ fall Controller Iack ∷ fall (Slot 1) DataStrobe ∷ fall (Slot 1) AddressStrobe ∷ shows 1 (Acknowledge 4) ∷ fall (Slot 1) Bbsy ∷ fall Controller (Bg 3) ∷ fall (Slot 1) Br ∷ fall (Slot 2) Irq ∷ []
+before_early_strobe = shows 1 (Acknowledge 4) ∷ fall (Slot 2) Irq ∷ rise (Slot 1) AddressStrobe ∷ rise (Slot 1) Addr ∷ rise (Slot 2) Irq ∷ rise (Slot 2) Dtack ∷ rise (Slot 1) DataStrobe
+    ∷ fall (Slot 2) Dtack ∷ fall Controller Iack ∷ fall (Slot 1) DataStrobe ∷ fall (Slot 1) AddressStrobe ∷ shows 1 (Acknowledge 4) ∷ fall (Slot 1) Bbsy ∷ fall Controller (Bg 3)
+    ∷ fall (Slot 1) Br ∷ fall (Slot 2) Irq ∷ []
 
 early_strobe : AreOthersAllowed One interrupters before_early_strobe (fall (Slot 1) AddressStrobe) (fall (Slot 2) Dtack ∷ fall (Slot 1) DataStrobe ∷ [])
-early_strobe = record { accepted = refl; before = (refl, (refl, (refl, (refl, (refl, (refl, (refl, (refl, (refl, (refl, (refl, (refl, (refl, (refl, (refl, (refl, tt)))))))))))))))); after = (refl, (refl, tt)) }
+early_strobe = record {
+  accepted = refl;
+  before = (refl, (refl, (refl, (refl, (refl, (refl, (refl, (refl, (refl, (refl, (refl, (refl, (refl, (refl, (refl, (refl, tt))))))))))))))));
+  after = (refl, (refl, tt));
+}
 
 early_strobe_is_answered : AnswersRightfully interrupters (fall (Slot 1) DataStrobe ∷ fall (Slot 1) AddressStrobe ∷ before_early_strobe) (fall (Slot 2) Dtack) → ⊥
 early_strobe_is_answered f = never (sym (f 2 4 refl refl).unanswered)
@@ -210,7 +225,8 @@ low_grant : (h : List Edge) → drive h Controller (Bg 3) ≡ true → IsLow one
 low_grant h e = record { part = omega arith; low = e }
 
 -- a grant that stands nowhere, with nobody withdrawn, is lost
-lost : (version : Version) (h : List Edge) → drive h (Slot 1) BgOut ≡ true → was_withdrawn one_board h 3 ≡ false → IsAwaited one_board h 3 ⊎ ((is_two version ≡ true) × (was_withdrawn one_board h 3 ≡ true)) → ⊥
+lost : (version : Version) (h : List Edge) → drive h (Slot 1) BgOut ≡ true → was_withdrawn one_board h 3 ≡ false → IsAwaited one_board h 3
+    ⊎ ((is_two version ≡ true) × (was_withdrawn one_board h 3 ≡ true)) → ⊥
 lost version h passed still (inl a) = never (sym (subst (λ x. drive h (Slot x) BgOut ≡ false) (sym (only_slot a.slot a.travels.member)) a.travels.unpassed) ∙ passed)
 lost version h passed still (inr w) = never (sym still ∙ w.1)
 
@@ -238,7 +254,8 @@ time_out_of_a_travelling_grant = record { accepted = refl; before = (refl, (refl
 run_begins_late : BeginsAtController Two one_level (rise Controller (Bg 3) ∷ before_time_out_of_a_travelling_grant) → ⊥
 run_begins_late f = go (f 3 (Some 1) refl (record { part = (omega arith, (0, omega arith, refl)); low = refl }))
   where
-    go : IsLow one_level (rise Controller (Bg 3) ∷ before_time_out_of_a_travelling_grant) 3 None ⊎ ((is_two Two ≡ true) × IsEndLow one_level (rise Controller (Bg 3) ∷ before_time_out_of_a_travelling_grant) 3) → ⊥
+    go : IsLow one_level (rise Controller (Bg 3) ∷ before_time_out_of_a_travelling_grant) 3 None
+        ⊎ ((is_two Two ≡ true) × IsEndLow one_level (rise Controller (Bg 3) ∷ before_time_out_of_a_travelling_grant) 3) → ⊥
     go (inl l) = never l.low
     go (inr w) = never w.1
 
@@ -249,7 +266,8 @@ time_out = record { accepted = refl; before = (refl, (refl, (refl, tt))); after 
 run_begins_late_too : BeginsAtController One one_level (rise Controller (Bg 3) ∷ before_time_out_of_a_travelling_grant) → ⊥
 run_begins_late_too f = go (f 3 (Some 1) refl (record { part = (omega arith, (0, omega arith, refl)); low = refl }))
   where
-    go : IsLow one_level (rise Controller (Bg 3) ∷ before_time_out_of_a_travelling_grant) 3 None ⊎ ((is_two One ≡ true) × IsEndLow one_level (rise Controller (Bg 3) ∷ before_time_out_of_a_travelling_grant) 3) → ⊥
+    go : IsLow one_level (rise Controller (Bg 3) ∷ before_time_out_of_a_travelling_grant) 3 None
+        ⊎ ((is_two One ≡ true) × IsEndLow one_level (rise Controller (Bg 3) ∷ before_time_out_of_a_travelling_grant) 3) → ⊥
     go (inl l) = never l.low
     go (inr w) = never w.0
 

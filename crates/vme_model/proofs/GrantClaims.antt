@@ -28,7 +28,8 @@ stands version p range h n s t = record {
   untaken = t.untaken;
 }
 
-travels : (version : Version) (p : Plan) → IsInRange p → (h : List Edge) (n s : ℕ) → n < 4 → Stands (on p) p.slots (is_two version) (grant_wires p h) n s (upstream p (grant_chain n) s) → Travels p h n s
+travels : (version : Version) (p : Plan) → IsInRange p → (h : List Edge) (n s : ℕ) → n < 4 → Stands (on p) p.slots (is_two version) (grant_wires p h) n s
+    (upstream p (grant_chain n) s) → Travels p h n s
 travels version p range h n s l f = record {
   level = l;
   member = is_member p range n s l f.place.member;
@@ -91,7 +92,8 @@ no_gap version p h now n a b c l l' q x y =
     let lq = is_part version p n b q in
     record {
       part = q;
-      low = as_segment p h n b lq.0 ∙ none_between (on p) p.slots (is_two version) (one_chain p) (grant_wires p h) n a b c (is_before version p a b l) (is_before version p b c l') lx.part lq.1 ly.part lx.low ly.low now;
+      low = as_segment p h n b lq.0 ∙ none_between (on p) p.slots (is_two version) (one_chain p) (grant_wires p h) n a b c (is_before version p a b l) (is_before version p b c l') lx.part lq.1
+          ly.part lx.low ly.low now;
     }
 
 pub begins_at_controller : (version : Version) (p : Plan) → IsInRange p → (h : List Edge) → Now version p h → BeginsAtController version p h
@@ -99,7 +101,8 @@ begins_at_controller version p range h now n a free x =
     let lx = low_of version p h n a x in
     begins lx.level (starts_or_ends (on p) p.slots (is_two version) (one_chain p) (grant_wires p h) n a _ (is_end p range n lx.level) (within p range) (all_free p range h free) lx.part lx.low now)
   where
-    begins : n < 4 → (drive h Controller (Bg n) ≡ true) ⊎ ((is_two version ≡ true) × (segment_of (grant_wires p h) n (last_active p (grant_chain n)) ≡ true)) → IsLow p h n None ⊎ ((is_two version ≡ true) × IsEndLow p h n)
+    begins : n < 4 → (drive h Controller (Bg n) ≡ true) ⊎ ((is_two version ≡ true) × (segment_of (grant_wires p h) n (last_active p (grant_chain n)) ≡ true)) → IsLow p h n None
+        ⊎ ((is_two version ≡ true) × IsEndLow p h n)
     begins l (inl e) = inl (record { part = l; low = as_segment p h n None l ∙ e })
     begins l (inr e) = inr (e.0, as_segment p h n (last_active p (grant_chain n)) l ∙ e.1)
 
@@ -108,7 +111,8 @@ none_lost version p range h now n free x =
     let lx = low_of version p h n None x in
     there lx.level (not_lost (on p) p.slots (is_two version) (grant_wires p h) n (upstream p (grant_chain n)) (all_below p range n lx.level) (all_free p range h free) lx.low now)
   where
-    there : n < 4 → Found (on p) p.slots (is_two version) (grant_wires p h) n (upstream p (grant_chain n)) ⊎ IsWithdrawn (on p) p.slots (is_two version) (grant_wires p h) n → IsAwaited p h n ⊎ ((is_two version ≡ true) × (was_withdrawn p h n ≡ true))
+    there : n < 4 → Found (on p) p.slots (is_two version) (grant_wires p h) n (upstream p (grant_chain n)) ⊎ IsWithdrawn (on p) p.slots (is_two version) (grant_wires p h) n → IsAwaited p h n
+        ⊎ ((is_two version ≡ true) × (was_withdrawn p h n ≡ true))
     there l (inl f) = inl (record {
       slot = f.slot;
       waiter = f.waiter;
@@ -122,9 +126,11 @@ none_lost version p range h now n free x =
 pub travels_or_ends : (version : Version) (p : Plan) → IsInRange p → (h : List Edge) → Now version p h → TravelsOrEnds p h
 travels_or_ends version p range h now n free x =
     let lx = low_of version p h n None x in
-    there lx.level (stands_or_ends (on p) p.slots (is_two version) (grant_wires p h) n (upstream p (grant_chain n)) (last_active p (grant_chain n)) (all_below p range n lx.level) (is_end p range n lx.level) (all_free p range h free) lx.low now)
+    there lx.level (stands_or_ends (on p) p.slots (is_two version) (grant_wires p h) n (upstream p (grant_chain n)) (last_active p (grant_chain n)) (all_below p range n lx.level)
+    (is_end p range n lx.level) (all_free p range h free) lx.low now)
   where
-    there : n < 4 → ((s : ℕ) × Stands (on p) p.slots (is_two version) (grant_wires p h) n s (upstream p (grant_chain n) s)) ⊎ (segment_of (grant_wires p h) n (last_active p (grant_chain n)) ≡ true) → ((s : ℕ) × Travels p h n s) ⊎ IsEndLow p h n
+    there : n < 4 → ((s : ℕ) × Stands (on p) p.slots (is_two version) (grant_wires p h) n s (upstream p (grant_chain n) s)) ⊎ (segment_of (grant_wires p h) n (last_active p (grant_chain n)) ≡ true)
+        → ((s : ℕ) × Travels p h n s) ⊎ IsEndLow p h n
     there l (inl f) = inl (f.0, travels version p range h n f.0 l f.1)
     there l (inr e) = inr (as_segment p h n (last_active p (grant_chain n)) l ∙ e)
 
@@ -135,7 +141,8 @@ take_is : (version : Version) (p : Plan) → IsInRange p → (h : List Edge) (s 
 take_is version p range h s v a now =
     let l = level_of p range h s a.exists in
     let r = and_left _ _ a.rule in
-    let f = rightful (on p) p.slots (is_two version) (one_chain p) (grant_wires p h) l.level s _ (place version p range h s l) (grant_is p h s l true (and_left _ _ r)) (not_true _ (and_right _ _ r)) a.before now in
+    let f = rightful (on p) p.slots (is_two version) (one_chain p) (grant_wires p h) l.level s _ (place version p range h s l) (grant_is p h s l true (and_left _ _ r))
+    (not_true _ (and_right _ _ r)) a.before now in
     record {
       level = l.level;
       in_range = l.in_range;
@@ -146,11 +153,13 @@ take_is version p range h s v a now =
       requests = and_right _ _ a.rule;
     }
 
-clear_of : (version : Version) (p : Plan) → IsInRange p → (h : List Edge) (s : ℕ) (v : Option Cycle) → Passed version p h (Slot s) Bbsy false v → Now version p h → (n : ℕ) (a : Option ℕ) → IsLow p h n a → ⊥
+clear_of : (version : Version) (p : Plan) → IsInRange p → (h : List Edge) (s : ℕ) (v : Option Cycle) → Passed version p h (Slot s) Bbsy false v → Now version p h
+    → (n : ℕ) (a : Option ℕ) → IsLow p h n a → ⊥
 clear_of version p range h s v a now n b x =
     let l = level_of p range h s a.exists in
     let r = and_left _ _ (and_left _ _ a.rule) in
-    let c = leaves_clear (on p) p.slots (is_two version) (one_chain p) (grant_wires p h) l.level s _ (place version p range h s l) (grant_is p h s l false (not_true _ (and_right _ _ r))) a.before now in
+    let c = leaves_clear (on p) p.slots (is_two version) (one_chain p) (grant_wires p h) l.level s _ (place version p range h s l) (grant_is p h s l false (not_true _ (and_right _ _ r))) a.before now
+    in
     let lx = low_of version p h n b x in
     high b c lx.low
   where
@@ -158,13 +167,15 @@ clear_of version p range h s v a now n b x =
     high None c e = cc (c.0 n)
     high (Some t) c e = cc (c.1 t)
 
-pub takes_rightfully : (version : Version) (p : Plan) → IsInRange p → (h : List Edge) (d : Driver) (w : Wire) (fall : Bool) (v : Option Cycle) → Passed version p h d w fall v → Now version p h → TakesRightfully p h (record { driver = d; wire = w; fall = fall; value = v })
+pub takes_rightfully : (version : Version) (p : Plan) → IsInRange p → (h : List Edge) (d : Driver) (w : Wire) (fall : Bool) (v : Option Cycle) → Passed version p h d w fall v → Now version p h
+    → TakesRightfully p h (record { driver = d; wire = w; fall = fall; value = v })
 takes_rightfully version p range h (Slot s) Bbsy true v a now k e = subst (IsRightfulTake p h) (same_number s k e) (take_is version p range h s v a now)
 takes_rightfully version p range h Controller w true v a now k e = absurd (never (and_right (is_same_wire w Bbsy) false e))
 takes_rightfully version p range h (Slot s) w true v a now k e = absurd (never e)
 takes_rightfully version p range h d w false v a now k e = absurd (never e)
 
-pub releases_after_grants : (version : Version) (p : Plan) → IsInRange p → (h : List Edge) (d : Driver) (w : Wire) (fall : Bool) (v : Option Cycle) → Passed version p h d w fall v → Now version p h → ReleasesAfterGrants p h (record { driver = d; wire = w; fall = fall; value = v })
+pub releases_after_grants : (version : Version) (p : Plan) → IsInRange p → (h : List Edge) (d : Driver) (w : Wire) (fall : Bool) (v : Option Cycle) → Passed version p h d w fall v → Now version p h
+    → ReleasesAfterGrants p h (record { driver = d; wire = w; fall = fall; value = v })
 releases_after_grants version p range h (Slot s) Bbsy false v a now k n b e x = clear_of version p range h s v a now n b x
 releases_after_grants version p range h d w true v a now k n b e x = never e
 releases_after_grants version p range h Controller w false v a now k n b e x = never (and_right (is_same_wire w Bbsy) false e)

@@ -141,7 +141,8 @@ module _ (on : ℕ → ℕ → Bool) (slots : ℕ) (two : Bool) where
   idle_low v m (Some p) i low = cc (i.out_high p)
 
   -- while a grant goes on, the place at which a low grant-in stands
-  granting_low : OneChain → (v : GrantWires) (c hi m s : ℕ) (found : Option ℕ) → IsBelow (on m) s found → IsGranting v c hi → segment_of v m found ≡ true → (m ≡ c) × ((t : ℕ) → on m t ≡ true → t < s → t < hi)
+  granting_low : OneChain → (v : GrantWires) (c hi m s : ℕ) (found : Option ℕ) → IsBelow (on m) s found → IsGranting v c hi → segment_of v m found ≡ true → (m ≡ c)
+      × ((t : ℕ) → on m t ≡ true → t < s → t < hi)
   granting_low one v c hi m s None b i low = (i.bg_only m low, λ t w l. absurd (b t w l))
   granting_low one v c hi m s (Some p) b i low =
       (one m c p b.passes (i.out_on p low), λ t w l. omega (arith, b.greatest t w l, i.out_below p low))
@@ -169,7 +170,8 @@ module _ (on : ℕ → ℕ → Bool) (slots : ℕ) (two : Bool) where
       let far : p < lo = grind (arith, i.out_each p b.passes, b.below) in
       (grind (arith, i.from_start), λ t w l. omega (arith, b.greatest t w l))
 
-  held_high : (v : GrantWires) (c k lo s : ℕ) (g : Bool) (found : Option ℕ) → IsBelow (on c) s found → IsHeld v c k lo g → s ≤ k → segment_of v c found ≡ false → (g ≡ false) × ((t : ℕ) → on c t ≡ true → t < s → t < lo)
+  held_high : (v : GrantWires) (c k lo s : ℕ) (g : Bool) (found : Option ℕ) → IsBelow (on c) s found → IsHeld v c k lo g → s ≤ k → segment_of v c found ≡ false → (g ≡ false)
+      × ((t : ℕ) → on c t ≡ true → t < s → t < lo)
   held_high v c k lo s g None b i le high = (cc i.bg_low, λ t w l. absurd (b t w l))
   held_high v c k lo s g (Some p) b i le high = held_high_some v c k lo s g p b i le high
 
@@ -203,7 +205,8 @@ module _ (on : ℕ → ℕ → Bool) (slots : ℕ) (two : Bool) where
           skip false e = e
 
   -- the controller grants level n, at which slot w waits
-  grant_falls_idle : (v : GrantWires) (bg' : ℕ → Bool) (n w : ℕ) → Sets bg' v.bg n true → n < 4 → on n w ≡ true → v.br w ≡ true → IsIdle v → IsGranting (record v { bg = bg'; granted = Some n; taken = false; passers = []; withdrawn = λ _. false }) n 0
+  grant_falls_idle : (v : GrantWires) (bg' : ℕ → Bool) (n w : ℕ) → Sets bg' v.bg n true → n < 4 → on n w ≡ true → v.br w ≡ true → IsIdle v
+      → IsGranting (record v { bg = bg'; granted = Some n; taken = false; passers = []; withdrawn = λ _. false }) n 0
   grant_falls_idle v bg' n w u l m b i = record {
     few = l;
     bg_low = grind (arith, u n);
@@ -218,11 +221,17 @@ module _ (on : ℕ → ℕ → Bool) (slots : ℕ) (two : Bool) where
     passers = ap quiet (sym (none_below_0 n));
   }
 
-  pub grant_falls : (v : GrantWires) (bg' : ℕ → Bool) (n w : ℕ) → Sets bg' v.bg n true → n < 4 → on n w ≡ true → v.br w ≡ true → ((m : ℕ) → m < 4 → v.bg m ≡ false) → ((m s : ℕ) → on m s ≡ true → v.busy s ≡ false) → (two ≡ true → (m s : ℕ) → on m s ≡ true → v.out s ≡ false) → Phased v → Phased (record v { bg = bg'; granted = Some n; taken = false; passers = []; withdrawn = λ _. false })
+  pub grant_falls : (v : GrantWires) (bg' : ℕ → Bool) (n w : ℕ) → Sets bg' v.bg n true → n < 4 → on n w ≡ true → v.br w ≡ true → ((m : ℕ) → m < 4 → v.bg m ≡ false)
+      → ((m s : ℕ) → on m s ≡ true → v.busy s ≡ false) → (two ≡ true → (m s : ℕ) → on m s ≡ true → v.out s ≡ false) → Phased v
+      → Phased (record v { bg = bg'; granted = Some n; taken = false; passers = []; withdrawn = λ _. false })
   grant_falls v bg' n w u l m b high free clear (Idle, i) = (Granting n 0, grant_falls_idle v bg' n w u l m b i)
   grant_falls v bg' n w u l m b high free clear (Granting c hi, i) = absurd (cc (high c i.few, i.bg_low))
   grant_falls v bg' n w u l m b high free clear (Held c k lo g, i) = absurd (cc (free c k i.member, i.holds))
-  grant_falls v bg' n w u l m b high free clear (Expired c lo, i) = (Granting n 0, grant_falls_idle v bg' n w u l m b (record { bg_high = i.bg_high; out_high = λ s. is_false (v.out s) (λ h. gone s h); free = i.free }))
+  grant_falls v bg' n w u l m b high free clear (Expired c lo, i) = (
+    Granting n 0,
+    grant_falls_idle v bg' n w u l m b
+        (record { bg_high = i.bg_high; out_high = λ s. is_false (v.out s) (λ h. gone s h); free = i.free }),
+  )
     where
       gone : (s : ℕ) → v.out s ≡ true → ⊥
       gone s h = cc (clear i.version c s (i.out_on s h), h)
@@ -242,11 +251,13 @@ module _ (on : ℕ → ℕ → Bool) (slots : ℕ) (two : Bool) where
     only = i.only;
   }
 
-  past_end_each : OneChain → (v : GrantWires) (c hi : ℕ) (found : Option ℕ) → IsBelow (on c) (suc slots) found → Within → segment_of v c found ≡ true → IsGranting v c hi → (s : ℕ) → on c s ≡ true → v.out s ≡ true
+  past_end_each : OneChain → (v : GrantWires) (c hi : ℕ) (found : Option ℕ) → IsBelow (on c) (suc slots) found → Within → segment_of v c found ≡ true → IsGranting v c hi → (s : ℕ)
+      → on c s ≡ true → v.out s ≡ true
   past_end_each one v c hi None b within low i s o = absurd (b s o (omega (arith, (within c s o).1)))
   past_end_each one v c hi (Some p) b within low i s o = i.out_each s o (omega (arith, b.greatest s o (omega (arith, (within c s o).1)), i.out_below p low))
 
-  expires : OneChain → Within → (v : GrantWires) (bg' : ℕ → Bool) (n c hi : ℕ) (found : Option ℕ) → Sets bg' v.bg n false → v.bg n ≡ true → two ≡ true → IsBelow (on n) (suc slots) found → segment_of v n found ≡ true → IsGranting v c hi → IsExpired (record v { bg = bg' }) c 0
+  expires : OneChain → Within → (v : GrantWires) (bg' : ℕ → Bool) (n c hi : ℕ) (found : Option ℕ) → Sets bg' v.bg n false → v.bg n ≡ true → two ≡ true → IsBelow (on n) (suc slots) found
+      → segment_of v n found ≡ true → IsGranting v c hi → IsExpired (record v { bg = bg' }) c 0
   expires one within v bg' n c hi found u e two_is b low i = go (i.bg_only n e)
     where
       go : n ≡ c → IsExpired (record v { bg = bg' }) c 0
@@ -269,7 +280,8 @@ module _ (on : ℕ → ℕ → Bool) (slots : ℕ) (two : Bool) where
     pub last : IsBelow (on n) (suc slots) found
     pub low : segment_of v n found ≡ true
 
-  pub grant_rises : OneChain → Within → (v : GrantWires) (bg' : ℕ → Bool) (n : ℕ) (found : Option ℕ) → Sets bg' v.bg n false → v.bg n ≡ true → ((s : ℕ) × (v.busy s ≡ true)) ⊎ HasPassed v n found → Phased v → Phased (record v { bg = bg' })
+  pub grant_rises : OneChain → Within → (v : GrantWires) (bg' : ℕ → Bool) (n : ℕ) (found : Option ℕ) → Sets bg' v.bg n false → v.bg n ≡ true → ((s : ℕ) × (v.busy s ≡ true)) ⊎ HasPassed v n found
+      → Phased v → Phased (record v { bg = bg' })
   grant_rises one within v bg' n found u e b (Idle, i) = absurd (cc (i.bg_high n))
   grant_rises one within v bg' n found u e (inl b) (Granting c hi, i) = absurd (cc (i.free b.0, b.1))
   grant_rises one within v bg' n found u e (inr b) (Granting c hi, i) = (Expired c 0, expires one within v bg' n c hi found u e b.version b.last b.low i)
@@ -277,7 +289,8 @@ module _ (on : ℕ → ℕ → Bool) (slots : ℕ) (two : Bool) where
   grant_rises one within v bg' n found u e b (Expired c lo, i) = absurd (cc (i.bg_high n))
 
   -- slot s requests the bus
-  asks_wanted : (v : GrantWires) (br' : ℕ → Bool) (s c hi : ℕ) → Sets br' v.br s true → IsWanted v c hi ⊎ IsWithdrawn v c → IsWanted (record v { br = br' }) c hi ⊎ IsWithdrawn (record v { br = br' }) c
+  asks_wanted : (v : GrantWires) (br' : ℕ → Bool) (s c hi : ℕ) → Sets br' v.br s true → IsWanted v c hi ⊎ IsWithdrawn v c → IsWanted (record v { br = br' }) c hi
+      ⊎ IsWithdrawn (record v { br = br' }) c
   asks_wanted v br' s c hi u (inl w) = inl (record { waiter = w.waiter; waiter_on = w.waiter_on; waiter_above = w.waiter_above; waits = grind (arith, u w.waiter, w.waits) })
   asks_wanted v br' s c hi u (inr w) = inr (record { version = w.version; withdrew = w.withdrew })
 
@@ -317,14 +330,16 @@ module _ (on : ℕ → ℕ → Bool) (slots : ℕ) (two : Bool) where
   asks v br' s u (Expired c lo, i) = (Expired c lo, record { version = i.version; few = i.few; bg_high = i.bg_high; out_on = i.out_on; out_above = i.out_above; out_each = i.out_each; free = i.free })
 
   -- slot s ends its request: it holds the bus, or withdraws
-  withdraws : (v : GrantWires) (br' withdrawn' : ℕ → Bool) (s c hi : ℕ) → two ≡ true → Sets br' v.br s false → (on c s ≡ true → withdrawn' c ≡ true) → (v.withdrawn c ≡ true → withdrawn' c ≡ true) → IsWanted v c hi ⊎ IsWithdrawn v c → IsWanted (record v { br = br'; withdrawn = withdrawn' }) c hi ⊎ IsWithdrawn (record v { br = br'; withdrawn = withdrawn' }) c
+  withdraws : (v : GrantWires) (br' withdrawn' : ℕ → Bool) (s c hi : ℕ) → two ≡ true → Sets br' v.br s false → (on c s ≡ true → withdrawn' c ≡ true) → (v.withdrawn c ≡ true → withdrawn' c ≡ true)
+      → IsWanted v c hi ⊎ IsWithdrawn v c → IsWanted (record v { br = br'; withdrawn = withdrawn' }) c hi ⊎ IsWithdrawn (record v { br = br'; withdrawn = withdrawn' }) c
   withdraws v br' withdrawn' s c hi e u a b (inr w) = inr (record { version = e; withdrew = b w.withdrew })
   withdraws v br' withdrawn' s c hi e u a b (inl w) = ⊎_elim
       (λ (x : (w.waiter ≡ s) × (br' w.waiter ≡ false)). inr (record { version = e; withdrew = a (subst (λ y. on c y ≡ true) x.0 w.waiter_on) }))
       (λ (x : (w.waiter ≢ s) × (br' w.waiter ≡ v.br w.waiter)). inl (record { waiter = w.waiter; waiter_on = w.waiter_on; waiter_above = w.waiter_above; waits = x.1 ∙ w.waits }))
       (u w.waiter)
 
-  pub asks_no_more : (v : GrantWires) (br' withdrawn' : ℕ → Bool) (s : ℕ) → Sets br' v.br s false → (v.busy s ≡ true) ⊎ (two ≡ true) → ((n : ℕ) → v.busy s ≡ false → on n s ≡ true → withdrawn' n ≡ true) → ((n : ℕ) → v.withdrawn n ≡ true → withdrawn' n ≡ true) → Phased v → Phased (record v { br = br'; withdrawn = withdrawn' })
+  pub asks_no_more : (v : GrantWires) (br' withdrawn' : ℕ → Bool) (s : ℕ) → Sets br' v.br s false → (v.busy s ≡ true) ⊎ (two ≡ true) → ((n : ℕ) → v.busy s ≡ false → on n s ≡ true → withdrawn' n
+      ≡ true) → ((n : ℕ) → v.withdrawn n ≡ true → withdrawn' n ≡ true) → Phased v → Phased (record v { br = br'; withdrawn = withdrawn' })
   asks_no_more v br' withdrawn' s u e a b (Idle, i) = (Idle, record { bg_high = i.bg_high; out_high = i.out_high; free = i.free })
   asks_no_more v br' withdrawn' s u (inl e) a b (Granting c hi, i) = absurd (cc (i.free s))
   asks_no_more v br' withdrawn' s u (inr e) a b (Granting c hi, i) = (
@@ -358,14 +373,33 @@ module _ (on : ℕ → ℕ → Bool) (slots : ℕ) (two : Bool) where
       only = i.only;
     },
   )
-  asks_no_more v br' withdrawn' s u e a b (Expired c lo, i) = (Expired c lo, record { version = i.version; few = i.few; bg_high = i.bg_high; out_on = i.out_on; out_above = i.out_above; out_each = i.out_each; free = i.free })
+  asks_no_more v br' withdrawn' s u e a b (Expired c lo, i) = (
+    Expired c lo,
+    record {
+      version = i.version;
+      few = i.few;
+      bg_high = i.bg_high;
+      out_on = i.out_on;
+      out_above = i.out_above;
+      out_each =
+          i.out_each;
+      free = i.free;
+    },
+  )
 
   -- slot s passes the grant on
-  passes_wanted : (v : GrantWires) (out' : ℕ → Bool) (passers' : List (Driver × Bool)) (c hi s : ℕ) → v.br s ≡ false → hi ≤ s → ((t : ℕ) → on c t ≡ true → t < s → t < hi) → IsWanted v c hi ⊎ IsWithdrawn v c → IsWanted (record v { out = out'; passers = passers' }) c (suc s) ⊎ IsWithdrawn (record v { out = out'; passers = passers' }) c
-  passes_wanted v out' passers' c hi s asks above f (inl w) = inl (record { waiter = w.waiter; waiter_on = w.waiter_on; waiter_above = grind (arith, w.waiter_above, f w.waiter w.waiter_on, w.waits); waits = w.waits })
+  passes_wanted : (v : GrantWires) (out' : ℕ → Bool) (passers' : List (Driver × Bool)) (c hi s : ℕ) → v.br s ≡ false → hi ≤ s → ((t : ℕ) → on c t ≡ true → t < s → t < hi) → IsWanted v c hi
+      ⊎ IsWithdrawn v c → IsWanted (record v { out = out'; passers = passers' }) c (suc s) ⊎ IsWithdrawn (record v { out = out'; passers = passers' }) c
+  passes_wanted v out' passers' c hi s asks above f (inl w) = inl (record {
+    waiter = w.waiter;
+    waiter_on = w.waiter_on;
+    waiter_above = grind (arith, w.waiter_above, f w.waiter w.waiter_on, w.waits);
+    waits = w.waits;
+  })
   passes_wanted v out' passers' c hi s asks above f (inr w) = inr (record { version = w.version; withdrew = w.withdrew })
 
-  passes_granting : OneChain → Within → (v : GrantWires) (out' : ℕ → Bool) (passers' : List (Driver × Bool)) (c hi m s : ℕ) (found : Option ℕ) → IsAt m s found → Sets out' v.out s true → passers' ≡ (Slot s, false) ∷ v.passers → segment_of v m found ≡ true → v.out s ≡ false → v.br s ≡ false → IsGranting v c hi → IsGranting (record v { out = out'; passers = passers' }) c (suc s)
+  passes_granting : OneChain → Within → (v : GrantWires) (out' : ℕ → Bool) (passers' : List (Driver × Bool)) (c hi m s : ℕ) (found : Option ℕ) → IsAt m s found → Sets out' v.out s true → passers'
+      ≡ (Slot s, false) ∷ v.passers → segment_of v m found ≡ true → v.out s ≡ false → v.br s ≡ false → IsGranting v c hi → IsGranting (record v { out = out'; passers = passers' }) c (suc s)
   passes_granting one within v out' passers' c hi m s found b u tr low high asks i = go (granting_low one v c hi m s found b.before i low)
     where
       go3 : m ≡ c → on c s ≡ true → ((t : ℕ) → on c t ≡ true → t < s → t < hi) → hi ≤ s → IsGranting (record v { out = out'; passers = passers' }) c (suc s)
@@ -389,7 +423,8 @@ module _ (on : ℕ → ℕ → Bool) (slots : ℕ) (two : Bool) where
       go : (m ≡ c) × ((t : ℕ) → on m t ≡ true → t < s → t < hi) → IsGranting (record v { out = out'; passers = passers' }) c (suc s)
       go f = go2 f.0 (subst (λ x. on x s ≡ true) f.0 b.member) (subst (λ x. (t : ℕ) → on x t ≡ true → t < s → t < hi) f.0 f.1)
 
-  pub passes_on : OneChain → Within → (v : GrantWires) (out' : ℕ → Bool) (passers' : List (Driver × Bool)) (m s : ℕ) (found : Option ℕ) → IsAt m s found → Sets out' v.out s true → passers' ≡ (Slot s, false) ∷ v.passers → segment_of v m found ≡ true → v.out s ≡ false → v.br s ≡ false → v.busy s ≡ false → Phased v → Phased (record v { out = out'; passers = passers' })
+  pub passes_on : OneChain → Within → (v : GrantWires) (out' : ℕ → Bool) (passers' : List (Driver × Bool)) (m s : ℕ) (found : Option ℕ) → IsAt m s found → Sets out' v.out s true → passers'
+      ≡ (Slot s, false) ∷ v.passers → segment_of v m found ≡ true → v.out s ≡ false → v.br s ≡ false → v.busy s ≡ false → Phased v → Phased (record v { out = out'; passers = passers' })
   passes_on one within v out' passers' m s found b u tr low high asks free (Idle, i) = absurd (idle_low v m found i low)
   passes_on one within v out' passers' m s found b u tr low high asks free (Granting c hi, i) = (Granting c (suc s), passes_granting one within v out' passers' c hi m s found b u tr low high asks i)
   passes_on one within v out' passers' m s found b u tr low high asks free (Held c k lo g, i) =
@@ -397,7 +432,8 @@ module _ (on : ℕ → ℕ → Bool) (slots : ℕ) (two : Bool) where
   passes_on one within v out' passers' m s found b u tr low high asks free (Expired c lo, i) = absurd (expired_front one v c lo m s found b low high i)
 
   -- the segment of slot s rises after the grant
-  rises_held : OneChain → (v : GrantWires) (out' : ℕ → Bool) (c k lo m s : ℕ) (g : Bool) (found : Option ℕ) → IsAt m s found → Sets out' v.out s false → segment_of v m found ≡ false → v.out s ≡ true → IsHeld v c k lo g → IsHeld (record v { out = out' }) c k (suc s) false
+  rises_held : OneChain → (v : GrantWires) (out' : ℕ → Bool) (c k lo m s : ℕ) (g : Bool) (found : Option ℕ) → IsAt m s found → Sets out' v.out s false → segment_of v m found ≡ false → v.out s ≡ true
+      → IsHeld v c k lo g → IsHeld (record v { out = out' }) c k (suc s) false
   rises_held one v out' c k lo m s g found b u high low i = go (one m c s b.member (i.out_on s low))
     where
       go2 : (g ≡ false) × ((t : ℕ) → on c t ≡ true → t < s → t < lo) → IsHeld (record v { out = out' }) c k (suc s) false
@@ -423,7 +459,8 @@ module _ (on : ℕ → ℕ → Bool) (slots : ℕ) (two : Bool) where
       go : m ≡ c → ⊥
       go e = omega (arith, granting_high v c hi s found (subst (λ x. IsBelow (on x) s found) e b.before) i (subst (λ x. segment_of v x found ≡ false) e high), i.out_below s low)
 
-  rises_expired : OneChain → (v : GrantWires) (out' : ℕ → Bool) (c lo m s : ℕ) (found : Option ℕ) → IsAt m s found → Sets out' v.out s false → segment_of v m found ≡ false → v.out s ≡ true → IsExpired v c lo → IsExpired (record v { out = out' }) c (suc s)
+  rises_expired : OneChain → (v : GrantWires) (out' : ℕ → Bool) (c lo m s : ℕ) (found : Option ℕ) → IsAt m s found → Sets out' v.out s false → segment_of v m found ≡ false → v.out s ≡ true
+      → IsExpired v c lo → IsExpired (record v { out = out' }) c (suc s)
   rises_expired one v out' c lo m s found b u high low i = go (one m c s b.member (i.out_on s low))
     where
       at : (found : Option ℕ) → IsBelow (on c) s found → segment_of v c found ≡ false → (t : ℕ) → on c t ≡ true → t < s → t < lo
@@ -444,14 +481,16 @@ module _ (on : ℕ → ℕ → Bool) (slots : ℕ) (two : Bool) where
       go : m ≡ c → IsExpired (record v { out = out' }) c (suc s)
       go e = go2 (at found (subst (λ x. IsBelow (on x) s found) e b.before) (subst (λ x. segment_of v x found ≡ false) e high))
 
-  pub rises : OneChain → (v : GrantWires) (out' : ℕ → Bool) (m s : ℕ) (found : Option ℕ) → IsAt m s found → Sets out' v.out s false → segment_of v m found ≡ false → v.out s ≡ true → Phased v → Phased (record v { out = out' })
+  pub rises : OneChain → (v : GrantWires) (out' : ℕ → Bool) (m s : ℕ) (found : Option ℕ) → IsAt m s found → Sets out' v.out s false → segment_of v m found ≡ false → v.out s ≡ true → Phased v
+      → Phased (record v { out = out' })
   rises one v out' m s found b u high low (Idle, i) = absurd (cc (i.out_high s))
   rises one v out' m s found b u high low (Granting c hi, i) = absurd (rises_granting one v c hi m s found b high low i)
   rises one v out' m s found b u high low (Held c k lo g, i) = (Held c k (suc s) false, rises_held one v out' c k lo m s g found b u high low i)
   rises one v out' m s found b u high low (Expired c lo, i) = (Expired c (suc s), rises_expired one v out' c lo m s found b u high low i)
 
   -- slot s takes the bus
-  takes_granting : OneChain → (v : GrantWires) (busy' : ℕ → Bool) (taken' : Bool) (c hi m s : ℕ) (found : Option ℕ) → IsAt m s found → Sets busy' v.busy s true → segment_of v m found ≡ true → v.out s ≡ false → IsGranting v c hi → IsHeld (record v { busy = busy'; taken = taken' }) c s 0 true
+  takes_granting : OneChain → (v : GrantWires) (busy' : ℕ → Bool) (taken' : Bool) (c hi m s : ℕ) (found : Option ℕ) → IsAt m s found → Sets busy' v.busy s true → segment_of v m found ≡ true → v.out s
+      ≡ false → IsGranting v c hi → IsHeld (record v { busy = busy'; taken = taken' }) c s 0 true
   takes_granting one v busy' taken' c hi m s found b u low high i = go (granting_low one v c hi m s found b.before i low) b.member
     where
       go : (m ≡ c) × ((t : ℕ) → on m t ≡ true → t < s → t < hi) → on m s ≡ true → IsHeld (record v { busy = busy'; taken = taken' }) c s 0 true
@@ -468,7 +507,8 @@ module _ (on : ℕ → ℕ → Bool) (slots : ℕ) (two : Bool) where
         only = λ t h. grind (arith, u t, i.free t);
       }
 
-  pub takes : OneChain → (v : GrantWires) (busy' : ℕ → Bool) (taken' : Bool) (m s : ℕ) (found : Option ℕ) → IsAt m s found → Sets busy' v.busy s true → segment_of v m found ≡ true → v.out s ≡ false → v.busy s ≡ false → Phased v → Phased (record v { busy = busy'; taken = taken' })
+  pub takes : OneChain → (v : GrantWires) (busy' : ℕ → Bool) (taken' : Bool) (m s : ℕ) (found : Option ℕ) → IsAt m s found → Sets busy' v.busy s true → segment_of v m found ≡ true → v.out s ≡ false
+      → v.busy s ≡ false → Phased v → Phased (record v { busy = busy'; taken = taken' })
   takes one v busy' taken' m s found b u low high free (Idle, i) = absurd (idle_low v m found i low)
   takes one v busy' taken' m s found b u low high free (Granting c hi, i) = (Held c s 0 true, takes_granting one v busy' taken' c hi m s found b u low high i)
   takes one v busy' taken' m s found b u low high free (Held c k lo g, i) =
@@ -476,7 +516,8 @@ module _ (on : ℕ → ℕ → Bool) (slots : ℕ) (two : Bool) where
   takes one v busy' taken' m s found b u low high free (Expired c lo, i) = absurd (expired_front one v c lo m s found b low high i)
 
   -- slot s gives the bus up, when every segment is high
-  nothing_low : OneChain → (v : GrantWires) (c k lo m s : ℕ) (g : Bool) (found : Option ℕ) → IsAt m s found → segment_of v m found ≡ false → v.busy s ≡ true → IsHeld v c k lo g → ((n : ℕ) → v.bg n ≡ false) × ((t : ℕ) → v.out t ≡ false)
+  nothing_low : OneChain → (v : GrantWires) (c k lo m s : ℕ) (g : Bool) (found : Option ℕ) → IsAt m s found → segment_of v m found ≡ false → v.busy s ≡ true → IsHeld v c k lo g
+      → ((n : ℕ) → v.bg n ≡ false) × ((t : ℕ) → v.out t ≡ false)
   nothing_low one v c k lo m s g found b high held i = go (i.only s held)
     where
       go3 : (g ≡ false) × ((t : ℕ) → on c t ≡ true → t < k → t < lo) → ((n : ℕ) → v.bg n ≡ false) × ((t : ℕ) → v.out t ≡ false)
@@ -486,12 +527,14 @@ module _ (on : ℕ → ℕ → Bool) (slots : ℕ) (two : Bool) where
       )
 
       go2 : s ≡ k → m ≡ c → ((n : ℕ) → v.bg n ≡ false) × ((t : ℕ) → v.out t ≡ false)
-      go2 e e' = go3 (held_high v c k lo k g found (subst (λ x. IsBelow (on c) x found) e (subst (λ x. IsBelow (on x) s found) e' b.before)) i (omega arith) (subst (λ x. segment_of v x found ≡ false) e' high))
+      go2 e e' = go3 (held_high v c k lo k g found (subst (λ x. IsBelow (on c) x found) e (subst (λ x. IsBelow (on x) s found) e' b.before)) i (omega arith)
+          (subst (λ x. segment_of v x found ≡ false) e' high))
 
       go : s ≡ k → ((n : ℕ) → v.bg n ≡ false) × ((t : ℕ) → v.out t ≡ false)
       go e = go2 e (one m c s b.member (cc (i.member, e)))
 
-  pub leaves_clear : OneChain → (v : GrantWires) (m s : ℕ) (found : Option ℕ) → IsAt m s found → segment_of v m found ≡ false → v.busy s ≡ true → Phased v → ((n : ℕ) → v.bg n ≡ false) × ((t : ℕ) → v.out t ≡ false)
+  pub leaves_clear : OneChain → (v : GrantWires) (m s : ℕ) (found : Option ℕ) → IsAt m s found → segment_of v m found ≡ false → v.busy s ≡ true → Phased v → ((n : ℕ) → v.bg n ≡ false)
+      × ((t : ℕ) → v.out t ≡ false)
   leaves_clear one v m s found b high held (Idle, i) = absurd (cc (i.free s))
   leaves_clear one v m s found b high held (Granting c hi, i) = absurd (cc (i.free s))
   leaves_clear one v m s found b high held (Held c k lo g, i) = nothing_low one v c k lo m s g found b high held i
@@ -507,7 +550,8 @@ module _ (on : ℕ → ℕ → Bool) (slots : ℕ) (two : Bool) where
       held_only : (c k lo : ℕ) (g : Bool) → IsHeld v c k lo g → (t : ℕ) → busy' t ≡ false
       held_only c k lo g i t = grind (arith, u t, i.only t, i.only s held)
 
-  pub releases : OneChain → (v : GrantWires) (busy' : ℕ → Bool) (m s : ℕ) (found : Option ℕ) → IsAt m s found → Sets busy' v.busy s false → segment_of v m found ≡ false → v.busy s ≡ true → Phased v → Phased (record v { busy = busy' })
+  pub releases : OneChain → (v : GrantWires) (busy' : ℕ → Bool) (m s : ℕ) (found : Option ℕ) → IsAt m s found → Sets busy' v.busy s false → segment_of v m found ≡ false → v.busy s ≡ true → Phased v
+      → Phased (record v { busy = busy' })
   releases one v busy' m s found b u high held p =
       let clear = leaves_clear one v m s found b high held p in
       (Idle, record { bg_high = clear.0; out_high = clear.1; free = free_after v busy' s u held p })
@@ -521,9 +565,11 @@ module _ (on : ℕ → ℕ → Bool) (slots : ℕ) (two : Bool) where
 
   pub stands_once : OneChain → (v : GrantWires) (m s n t : ℕ) (at_s at_t : Option ℕ) → Stands v m s at_s → Stands v n t at_t → Phased v → (m ≡ n) × (s ≡ t)
   stands_once one v m s n t at_s at_t a b (Idle, i) = absurd (idle_low v m at_s i a.low)
-  stands_once one v m s n t at_s at_t a b (Granting c hi, i) = go (granting_low one v c hi m s at_s a.place.before i a.low) (granting_low one v c hi n t at_t b.place.before i b.low) a.place.member b.place.member a.unpassed b.unpassed
+  stands_once one v m s n t at_s at_t a b (Granting c hi, i) = go (granting_low one v c hi m s at_s a.place.before i a.low) (granting_low one v c hi n t at_t b.place.before i b.low) a.place.member
+      b.place.member a.unpassed b.unpassed
     where
-      go : (m ≡ c) × ((x : ℕ) → on m x ≡ true → x < s → x < hi) → (n ≡ c) × ((x : ℕ) → on n x ≡ true → x < t → x < hi) → on m s ≡ true → on n t ≡ true → v.out s ≡ false → v.out t ≡ false → (m ≡ n) × (s ≡ t)
+      go : (m ≡ c) × ((x : ℕ) → on m x ≡ true → x < s → x < hi) → (n ≡ c) × ((x : ℕ) → on n x ≡ true → x < t → x < hi) → on m s ≡ true → on n t ≡ true → v.out s ≡ false → v.out t
+          ≡ false → (m ≡ n) × (s ≡ t)
       go f f' w w' high high' = grind (arith, f.0, f'.0, f.1 t, f'.1 s, i.out_each s, i.out_each t)
   stands_once one v m s n t at_s at_t a b (Held c k lo g, i) =
       let e = held_front one v c k lo m s g at_s a.place a.low a.unpassed i in absurd (cc (i.holds, e, a.untaken))
@@ -571,7 +617,8 @@ module _ (on : ℕ → ℕ → Bool) (slots : ℕ) (two : Bool) where
   one_chain_low one v m n a b w w' low low' (Held c k lo g, i) = held_chain one v c k lo g m a i w low ∙ sym (held_chain one v c k lo g n b i w' low')
   one_chain_low one v m n a b w w' low low' (Expired c lo, i) = expired_chain one v c lo m a i w low ∙ sym (expired_chain one v c lo n b i w' low')
 
-  pub none_between : OneChain → (v : GrantWires) (n : ℕ) (a b c : Option ℕ) → Before a b → Before b c → IsPart n a → IsPart n b → IsPart n c → segment_of v n a ≡ true → segment_of v n c ≡ true → Phased v → segment_of v n b ≡ true
+  pub none_between : OneChain → (v : GrantWires) (n : ℕ) (a b c : Option ℕ) → Before a b → Before b c → IsPart n a → IsPart n b → IsPart n c → segment_of v n a ≡ true → segment_of v n c ≡ true
+      → Phased v → segment_of v n b ≡ true
   none_between one v n None None c l l' w w' x low low' p = absurd l
   none_between one v n (Some s) None c l l' w w' x low low' p = absurd l
   none_between one v n a (Some t) None l l' w w' x low low' p = absurd l'
@@ -587,7 +634,8 @@ module _ (on : ℕ → ℕ → Bool) (slots : ℕ) (two : Bool) where
   none_between one v n (Some s) (Some t) (Some u) l l' w w' x low low' (Expired c lo, i) =
       i.out_each t (subst (λ y. on y t ≡ true) (expired_chain one v c lo n (Some u) i x low') w') (omega (arith, i.out_above s low))
 
-  pub starts_or_ends : OneChain → (v : GrantWires) (n : ℕ) (a last : Option ℕ) → IsBelow (on n) (suc slots) last → Within → ((m s : ℕ) → on m s ≡ true → v.busy s ≡ false) → IsPart n a → segment_of v n a ≡ true → Phased v → (v.bg n ≡ true) ⊎ ((two ≡ true) × (segment_of v n last ≡ true))
+  pub starts_or_ends : OneChain → (v : GrantWires) (n : ℕ) (a last : Option ℕ) → IsBelow (on n) (suc slots) last → Within → ((m s : ℕ) → on m s ≡ true → v.busy s ≡ false) → IsPart n a
+      → segment_of v n a ≡ true → Phased v → (v.bg n ≡ true) ⊎ ((two ≡ true) × (segment_of v n last ≡ true))
   starts_or_ends one v n a last b within free w low (Idle, i) = absurd (idle_low v n a i low)
   starts_or_ends one v n a last b within free w low (Granting c hi, i) = inl (subst (λ y. v.bg y ≡ true) (sym (granting_chain one v c hi n a i w low)) i.bg_low)
   starts_or_ends one v n a last b within free w low (Held c k lo g, i) = absurd (cc (free c k i.member, i.holds))
@@ -596,7 +644,8 @@ module _ (on : ℕ → ℕ → Bool) (slots : ℕ) (two : Bool) where
       at_end : (a last : Option ℕ) → IsBelow (on n) (suc slots) last → IsPart n a → segment_of v n a ≡ true → segment_of v n last ≡ true
       at_end None last b w low = absurd (cc (i.bg_high n))
       at_end (Some s) None b w low = absurd (b s w (omega (arith, (within n s w).1)))
-      at_end (Some s) (Some p) b w low = i.out_each p (subst (λ y. on y p ≡ true) (one n c s w (i.out_on s low)) b.passes) (omega (arith, b.greatest s w (omega (arith, (within n s w).1)), i.out_above s low))
+      at_end (Some s) (Some p) b w low = i.out_each p (subst (λ y. on y p ≡ true) (one n c s w (i.out_on s low)) b.passes)
+          (omega (arith, b.greatest s w (omega (arith, (within n s w).1)), i.out_above s low))
 
   -- the slot at which a grant stands, and the board that waits for it
   pub record Found (v : GrantWires) (n : ℕ) (before : ℕ → Option ℕ) : Type 0 where
@@ -611,7 +660,8 @@ module _ (on : ℕ → ℕ → Bool) (slots : ℕ) (two : Bool) where
   front_low v c hi s None b l i = i.bg_low
   front_low v c hi s (Some p) b l i = i.out_each p b.passes (⊎_elim (λ (x : p < hi). x) (λ (y : hi ≤ p). omega (arith, l p b.passes y, b.below)) (cases_lt p hi))
 
-  front_at : (v : GrantWires) (c hi : ℕ) (before : ℕ → Option ℕ) → ((s : ℕ) → IsBelow (on c) s (before s)) → IsGranting v c hi → (w : ℕ) → on c w ≡ true → hi ≤ w → (s : ℕ) × Stands v c s (before s) × (s ≤ w)
+  front_at : (v : GrantWires) (c hi : ℕ) (before : ℕ → Option ℕ) → ((s : ℕ) → IsBelow (on c) s (before s)) → IsGranting v c hi → (w : ℕ) → on c w ≡ true → hi ≤ w → (s : ℕ)
+      × Stands v c s (before s) × (s ≤ w)
   front_at v c hi before b i w o l = go (least_from (on c) hi w l o)
     where
       go : ((s : ℕ) × IsLeast (on c) hi w s) → (s : ℕ) × Stands v c s (before s) × (s ≤ w)
@@ -635,7 +685,8 @@ module _ (on : ℕ → ℕ → Bool) (slots : ℕ) (two : Bool) where
   found_or v c hi before b i (inl w) = inl (found_front v c hi before b i w)
   found_or v c hi before b i (inr w) = inr w
 
-  pub not_lost : (v : GrantWires) (n : ℕ) (before : ℕ → Option ℕ) → ((s : ℕ) → IsBelow (on n) s (before s)) → ((m s : ℕ) → on m s ≡ true → v.busy s ≡ false) → v.bg n ≡ true → Phased v → Found v n before ⊎ IsWithdrawn v n
+  pub not_lost : (v : GrantWires) (n : ℕ) (before : ℕ → Option ℕ) → ((s : ℕ) → IsBelow (on n) s (before s)) → ((m s : ℕ) → on m s ≡ true → v.busy s ≡ false) → v.bg n ≡ true → Phased v
+      → Found v n before ⊎ IsWithdrawn v n
   not_lost v n before b free low (Idle, i) = absurd (cc (i.bg_high n))
   not_lost v n before b free low (Expired c lo, i) = absurd (cc (i.bg_high n))
   not_lost v n before b free low (Held c k lo g, i) = absurd (cc (free c k i.member, i.holds))
@@ -644,14 +695,16 @@ module _ (on : ℕ → ℕ → Bool) (slots : ℕ) (two : Bool) where
       subst (λ y. Found v y before ⊎ IsWithdrawn v y) (sym e) (found_or v c hi before (subst (λ y. (s : ℕ) → IsBelow (on y) s (before s)) e b) i i.wanted)
 
   -- in every case it stands at a slot, or has passed the last one
-  stands_or_ends_granting : (v : GrantWires) (c hi : ℕ) (before : ℕ → Option ℕ) (last : Option ℕ) → ((s : ℕ) → IsBelow (on c) s (before s)) → IsBelow (on c) (suc slots) last → IsGranting v c hi → ((s : ℕ) × Stands v c s (before s)) ⊎ (segment_of v c last ≡ true)
+  stands_or_ends_granting : (v : GrantWires) (c hi : ℕ) (before : ℕ → Option ℕ) (last : Option ℕ) → ((s : ℕ) → IsBelow (on c) s (before s)) → IsBelow (on c) (suc slots) last → IsGranting v c hi
+      → ((s : ℕ) × Stands v c s (before s)) ⊎ (segment_of v c last ≡ true)
   stands_or_ends_granting v c hi before None b e i = inr i.bg_low
   stands_or_ends_granting v c hi before (Some q) b e i = ⊎_elim
       (λ (l : q < hi). inr (i.out_each q e.passes l))
       (λ (l : hi ≤ q). let f = front_at v c hi before b i q e.passes l in inl (f.0, f.1))
       (cases_lt q hi)
 
-  pub stands_or_ends : (v : GrantWires) (n : ℕ) (before : ℕ → Option ℕ) (last : Option ℕ) → ((s : ℕ) → IsBelow (on n) s (before s)) → IsBelow (on n) (suc slots) last → ((m s : ℕ) → on m s ≡ true → v.busy s ≡ false) → v.bg n ≡ true → Phased v → ((s : ℕ) × Stands v n s (before s)) ⊎ (segment_of v n last ≡ true)
+  pub stands_or_ends : (v : GrantWires) (n : ℕ) (before : ℕ → Option ℕ) (last : Option ℕ) → ((s : ℕ) → IsBelow (on n) s (before s)) → IsBelow (on n) (suc slots) last
+      → ((m s : ℕ) → on m s ≡ true → v.busy s ≡ false) → v.bg n ≡ true → Phased v → ((s : ℕ) × Stands v n s (before s)) ⊎ (segment_of v n last ≡ true)
   stands_or_ends v n before last b e free low (Idle, i) = absurd (cc (i.bg_high n))
   stands_or_ends v n before last b e free low (Expired c lo, i) = absurd (cc (i.bg_high n))
   stands_or_ends v n before last b e free low (Held c k lo g, i) = absurd (cc (free c k i.member, i.holds))

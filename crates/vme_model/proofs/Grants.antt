@@ -105,9 +105,11 @@ clear_now p range h m s o c = is_false (drive h (Slot s) BgOut) (λ low. low_one
 
 -- what stands last on a chain
 pub is_end : (p : Plan) → IsInRange p → (n : ℕ) → n < 4 → IsBelow (on p n) (suc p.slots) (last_active p (grant_chain n))
-is_end p range n l = subst (λ xs. IsBelow (on p n) (suc p.slots) (find (λ s. true) (reverse xs))) (sym (active_is p n l)) (subst (IsBelow (on p n) (suc p.slots)) (last_of (on p n) p.slots p.slots (omega arith)) (is_below (on p n) p.slots (suc p.slots) (within p range n)))
+is_end p range n l = subst (λ xs. IsBelow (on p n) (suc p.slots) (find (λ s. true) (reverse xs))) (sym (active_is p n l))
+    (subst (IsBelow (on p n) (suc p.slots)) (last_of (on p n) p.slots p.slots (omega arith)) (is_below (on p n) p.slots (suc p.slots) (within p range n)))
 
-rise_of : (two : Bool) (p : Plan) → IsInRange p → (h : List Edge) (n : ℕ) → n < 4 → (busy : Bool) → line p h Bbsy ≡ busy → (two || busy) ≡ true → (not two || busy || is_past_end p h (grant_chain n)) ≡ true → ((s : ℕ) × (drive h (Slot s) Bbsy ≡ true)) ⊎ HasPassed (on p) p.slots two (grant_wires p h) n (last_active p (grant_chain n))
+rise_of : (two : Bool) (p : Plan) → IsInRange p → (h : List Edge) (n : ℕ) → n < 4 → (busy : Bool) → line p h Bbsy ≡ busy → (two || busy) ≡ true → (not two || busy || is_past_end p h (grant_chain n))
+    ≡ true → ((s : ℕ) × (drive h (Slot s) Bbsy ≡ true)) ⊎ HasPassed (on p) p.slots two (grant_wires p h) n (last_active p (grant_chain n))
 rise_of two p range h n l true e g s = inl (holder p range h e)
 rise_of true p range h n l false e g s = inr (record { version = refl; last = is_end p range n l; low = sym (as_segment p h n (last_active p (grant_chain n)) l) ∙ s })
 rise_of false p range h n l false e g s = absurd (cc)
@@ -130,45 +132,54 @@ after_grant : (version : Version) (p : Plan) → IsInRange p → (n : ℕ) → K
 after_grant version p range n h v a now =
     let r = and_left _ _ a.rule in
     let w = waiter p range h n ((laws_of p.arbiter).is_low (request_line p h) (last_level h) n (and_right _ _ a.rule)) in
-    grant_falls (on p) p.slots (is_two version) (grant_wires p h) _ n w.0 (sets_level (λ m. drive h Controller (Bg m)) n true) (is_less n 4 a.wire) w.1 w.2 (grants_high (λ m. drive h Controller (Bg m)) (and_left _ _ r)) (all_free p range h (not_true _ (and_right _ _ r))) (λ e m s o. clear_now p range h m s o (when (not (is_two version)) (are_grants_through p h) (off (is_two version) e) a.settles)) now
+    grant_falls (on p) p.slots (is_two version) (grant_wires p h) _ n w.0 (sets_level (λ m. drive h Controller (Bg m)) n true) (is_less n 4 a.wire) w.1 w.2
+    (grants_high (λ m. drive h Controller (Bg m)) (and_left _ _ r)) (all_free p range h (not_true _ (and_right _ _ r)))
+    (λ e m s o. clear_now p range h m s o (when (not (is_two version)) (are_grants_through p h) (off (is_two version) e) a.settles)) now
 
 after_grant_rise : (version : Version) (p : Plan) → IsInRange p → (n : ℕ) → KeepsPhase version p Controller (Bg n) false
 after_grant_rise version p range n h v a now =
-    grant_rises (on p) p.slots (is_two version) (one_chain p) (within p range) (grant_wires p h) _ n _ (sets_level (λ m. drive h Controller (Bg m)) n false) a.before (rise_of (is_two version) p range h n (is_less n 4 a.wire) (line p h Bbsy) refl a.rule a.settles) now
+    grant_rises (on p) p.slots (is_two version) (one_chain p) (within p range) (grant_wires p h) _ n _ (sets_level (λ m. drive h Controller (Bg m)) n false) a.before
+    (rise_of (is_two version) p range h n (is_less n 4 a.wire) (line p h Bbsy) refl a.rule a.settles) now
 
 after_request : (version : Version) (p : Plan) → IsInRange p → (s : ℕ) → KeepsPhase version p (Slot s) Br true
 after_request version p range s h v a now = asks (on p) p.slots (is_two version) (grant_wires p h) _ s (sets_slot (λ t. drive h (Slot t) Br) s true) now
 
 after_request_rise : (version : Version) (p : Plan) → IsInRange p → (s : ℕ) → KeepsPhase version p (Slot s) Br false
 after_request_rise version p range s h v a now =
-    asks_no_more (on p) p.slots (is_two version) (grant_wires p h) _ _ s (sets_slot (λ t. drive h (Slot t) Br) s false) (may_stop (is_two version) (drive h (Slot s) Bbsy) a.rule) (λ n b o. gave_up (drive h (Slot s) Bbsy) (on p n s) (was_withdrawn p h n) b o) (λ n b. still (drive h (Slot s) Bbsy) (on p n s) (was_withdrawn p h n) b) now
+    asks_no_more (on p) p.slots (is_two version) (grant_wires p h) _ _ s (sets_slot (λ t. drive h (Slot t) Br) s false) (may_stop (is_two version) (drive h (Slot s) Bbsy) a.rule)
+    (λ n b o. gave_up (drive h (Slot s) Bbsy) (on p n s) (was_withdrawn p h n) b o) (λ n b. still (drive h (Slot s) Bbsy) (on p n s) (was_withdrawn p h n) b) now
 
 after_pass : (version : Version) (p : Plan) → IsInRange p → (s : ℕ) → KeepsPhase version p (Slot s) BgOut true
 after_pass version p range s h v a now =
     let l = level_of p range h s a.exists in
     let r = and_left _ _ a.rule in
     let quiet_now = not_true _ (and_right _ _ r) in
-    passes_on (on p) p.slots (is_two version) (one_chain p) (within p range) (grant_wires p h) _ _ l.level s _ (place version p range h s l) (sets_slot (λ t. drive h (Slot t) BgOut) s true) (ap (λ b. (Slot s, b) ∷ grant_passes h) quiet_now) (grant_is p h s l true (and_left _ _ r)) a.before quiet_now (not_true _ (and_right _ _ a.rule)) now
+    passes_on (on p) p.slots (is_two version) (one_chain p) (within p range) (grant_wires p h) _ _ l.level s _ (place version p range h s l) (sets_slot (λ t. drive h (Slot t) BgOut) s true)
+    (ap (λ b. (Slot s, b) ∷ grant_passes h) quiet_now) (grant_is p h s l true (and_left _ _ r)) a.before quiet_now (not_true _ (and_right _ _ a.rule)) now
 
 after_pass_rise : (version : Version) (p : Plan) → IsInRange p → (s : ℕ) → KeepsPhase version p (Slot s) BgOut false
 after_pass_rise version p range s h v a now =
     let l = level_of p range h s a.exists in
-    rises (on p) p.slots (is_two version) (one_chain p) (grant_wires p h) _ l.level s _ (place version p range h s l) (sets_slot (λ t. drive h (Slot t) BgOut) s false) (grant_is p h s l false (not_true _ a.rule)) a.before now
+    rises (on p) p.slots (is_two version) (one_chain p) (grant_wires p h) _ l.level s _ (place version p range h s l) (sets_slot (λ t. drive h (Slot t) BgOut) s false)
+    (grant_is p h s l false (not_true _ a.rule)) a.before now
 
 after_take : (version : Version) (p : Plan) → IsInRange p → (s : ℕ) → KeepsPhase version p (Slot s) Bbsy true
 after_take version p range s h v a now =
     let l = level_of p range h s a.exists in
     let r = and_left _ _ a.rule in
-    takes (on p) p.slots (is_two version) (one_chain p) (grant_wires p h) _ _ l.level s _ (place version p range h s l) (sets_slot (λ t. drive h (Slot t) Bbsy) s true) (grant_is p h s l true (and_left _ _ r)) (not_true _ (and_right _ _ r)) a.before now
+    takes (on p) p.slots (is_two version) (one_chain p) (grant_wires p h) _ _ l.level s _ (place version p range h s l) (sets_slot (λ t. drive h (Slot t) Bbsy) s true)
+    (grant_is p h s l true (and_left _ _ r)) (not_true _ (and_right _ _ r)) a.before now
 
 after_release : (version : Version) (p : Plan) → IsInRange p → (s : ℕ) → KeepsPhase version p (Slot s) Bbsy false
 after_release version p range s h v a now =
     let l = level_of p range h s a.exists in
     let r = and_left _ _ (and_left _ _ a.rule) in
-    releases (on p) p.slots (is_two version) (one_chain p) (grant_wires p h) _ l.level s _ (place version p range h s l) (sets_slot (λ t. drive h (Slot t) Bbsy) s false) (grant_is p h s l false (not_true _ (and_right _ _ r))) a.before now
+    releases (on p) p.slots (is_two version) (one_chain p) (grant_wires p h) _ l.level s _ (place version p range h s l) (sets_slot (λ t. drive h (Slot t) Bbsy) s false)
+    (grant_is p h s l false (not_true _ (and_right _ _ r))) a.before now
 
 -- after every edge that passed its tests
-step : (version : Version) (p : Plan) → IsInRange p → (h : List Edge) (d : Driver) (w : Wire) (fall : Bool) (v : Option Cycle) → Passed version p h d w fall v → Now version p h → Now version p (record { driver = d; wire = w; fall = fall; value = v } ∷ h)
+step : (version : Version) (p : Plan) → IsInRange p → (h : List Edge) (d : Driver) (w : Wire) (fall : Bool) (v : Option Cycle) → Passed version p h d w fall v → Now version p h
+    → Now version p (record { driver = d; wire = w; fall = fall; value = v } ∷ h)
 step version p range h Controller (Bg n) true v a now = after_grant version p range n h v a now
 step version p range h Controller (Bg n) false v a now = after_grant_rise version p range n h v a now
 step version p range h (Slot s) (Bg n) true v a now = absurd (cc a.wire)

@@ -79,7 +79,8 @@ one_name : (c : Condition) (b : Bool) → (if b then [] else c ∷ []) ≡ names
 one_name c true = refl
 one_name c false = refl
 
-one_more : (c : Condition) (b : Bool) (xs ys : List Tested) → names xs ++ names ys ≡ names (xs ++ ys) → names (record { condition = c; holds = b } ∷ xs) ++ names ys ≡ names (record { condition = c; holds = b } ∷ (xs ++ ys))
+one_more : (c : Condition) (b : Bool) (xs ys : List Tested) → names xs ++ names ys ≡ names (xs ++ ys) → names (record { condition = c; holds = b } ∷ xs) ++ names ys
+    ≡ names (record { condition = c; holds = b } ∷ (xs ++ ys))
 one_more c true xs ys e = e
 one_more c false xs ys e = ap (λ l. c ∷ l) e
 

@@ -56,7 +56,8 @@ folds p d F G z i (e ∷ h) l = go (is_same_driver e.driver d) refl (folds p d F
     go false f r = i.skips e h (and_left (is_well_formed e) _ l) f ∙ r
 
 -- the value is the same in histories with the same own edges
-same_own : {A : Type 0} (p : Plan) (d : Driver) (F : List Edge → A) (G : Edge → Pins → A → A) (z : A) → IsOwn p d F G z → (h k : List Edge) → AreWellFormed h → AreWellFormed k → noted p h d ≡ noted p k d → F h ≡ F k
+same_own : {A : Type 0} (p : Plan) (d : Driver) (F : List Edge → A) (G : Edge → Pins → A → A) (z : A) → IsOwn p d F G z → (h k : List Edge) → AreWellFormed h → AreWellFormed k → noted p h d
+    ≡ noted p k d → F h ≡ F k
 same_own p d F G z i h k l m e = folds p d F G z i h l ∙ ap (fold_own G z) e ∙ sym (folds p d F G z i k m)
 
 and_false : (a b : Bool) → b ≡ false → (a && b) ≡ false
@@ -87,17 +88,20 @@ own_cycles : (p : Plan) (d : Driver) → IsOwn p d (λ h. cycles h d) (λ e t x.
 own_cycles p d = record {
   start = refl;
   takes = λ e h. refl;
-  skips = λ e h l f. ap (λ b. if b then 0 else (if is_fall_of d AddressStrobe e then 1 else 0) + cycles h d) (no_fall d Bbsy e f) ∙ (ap (λ b. (if b then 1 else 0) + cycles h d) (no_fall d AddressStrobe e f) ∙ none (cycles h d));
+  skips = λ e h l f. ap (λ b. if b then 0 else (if is_fall_of d AddressStrobe e then 1 else 0) + cycles h d) (no_fall d Bbsy e f)
+      ∙ (ap (λ b. (if b then 1 else 0) + cycles h d) (no_fall d AddressStrobe e f) ∙ none (cycles h d));
 }
   where
     none : (n : ℕ) → 0 + n ≡ n
     none n = omega arith
 
-own_served : (p : Plan) (d : Driver) (kind : IrqKind) → IsOwn p d (λ h. served_since_request p h d kind) (λ e t x. if is_fall_of d Irq e then false else ((is_fall_of d Dtack e && serves kind t.shown) || x)) false
+own_served : (p : Plan) (d : Driver) (kind : IrqKind) → IsOwn p d (λ h. served_since_request p h d kind) (λ e t x. if is_fall_of d Irq e then
+    false else ((is_fall_of d Dtack e && serves kind t.shown) || x)) false
 own_served p d kind = record {
   start = refl;
   takes = λ e h. refl;
-  skips = λ e h l f. ap (λ b. if b then false else ((is_fall_of d Dtack e && serves kind (shown p h)) || served_since_request p h d kind)) (no_fall d Irq e f) ∙ ap (λ b. (b && serves kind (shown p h)) || served_since_request p h d kind) (no_fall d Dtack e f);
+  skips = λ e h l f. ap (λ b. if b then false else ((is_fall_of d Dtack e && serves kind (shown p h)) || served_since_request p h d kind)) (no_fall d Irq e f)
+      ∙ ap (λ b. (b && serves kind (shown p h)) || served_since_request p h d kind) (no_fall d Dtack e f);
 }
 
 -- a grant is an edge of the controller
@@ -168,10 +172,12 @@ same_irq p range h k e (suc (suc (suc (suc zero)))) = (seven_bits _ _ _ _ _ _ _ 
 same_irq p range h k e (suc (suc (suc (suc (suc zero))))) = (seven_bits _ _ _ _ _ _ _ _ _ _ _ _ _ _ (ap (λ x. x.0) e)).4
 same_irq p range h k e (suc (suc (suc (suc (suc (suc zero)))))) = (seven_bits _ _ _ _ _ _ _ _ _ _ _ _ _ _ (ap (λ x. x.0) e)).5
 same_irq p range h k e (suc (suc (suc (suc (suc (suc (suc zero))))))) = (seven_bits _ _ _ _ _ _ _ _ _ _ _ _ _ _ (ap (λ x. x.0) e)).6
-same_irq p range h k e (suc (suc (suc (suc (suc (suc (suc (suc n)))))))) = no_interrupt p range h (suc (suc (suc (suc (suc (suc (suc (suc n)))))))) (λ a b. omega arith) ∙ sym (no_interrupt p range k (suc (suc (suc (suc (suc (suc (suc (suc n)))))))) (λ a b. omega arith))
+same_irq p range h k e (suc (suc (suc (suc (suc (suc (suc (suc n)))))))) = no_interrupt p range h (suc (suc (suc (suc (suc (suc (suc (suc n)))))))) (λ a b. omega arith)
+    ∙ sym (no_interrupt p range k (suc (suc (suc (suc (suc (suc (suc (suc n)))))))) (λ a b. omega arith))
 
 -- the rules of a board's wires read no level last granted
-board_rule : (version : Version) (r : Readings) (w : Wire) (fall : Bool) (v : Option Cycle) (n : ℕ) → (is_grant_wire w ≡ false) → (is_same_wire w Bclr ≡ false) → rule version (record r { last_level = n }) w fall v ≡ rule version r w fall v
+board_rule : (version : Version) (r : Readings) (w : Wire) (fall : Bool) (v : Option Cycle) (n : ℕ) → (is_grant_wire w ≡ false) → (is_same_wire w Bclr ≡ false)
+    → rule version (record r { last_level = n }) w fall v ≡ rule version r w fall v
 board_rule version r (Bg m) fall v n e f = absurd (cc)
 board_rule version r Bclr fall v n e f = absurd (cc)
 board_rule version r w true v n e f = refl
@@ -190,7 +196,9 @@ same_settling One p h k (Bg n) false e = refl
 same_settling Two p h k (Bg n) fall e = absurd (cc)
 same_settling version p h k w fall e = refl
 
-same_verdict : (version : Version) (p : Plan) (h k : List Edge) (d : Driver) (w : Wire) (fall : Bool) (v : Option Cycle) → drive h d w ≡ drive k d w → rule version (readings p h d) w fall v ≡ rule version (readings p k d) w fall v → settling version p h w fall ≡ settling version p k w fall → verdict_but_full version p h (record { driver = d; wire = w; fall = fall; value = v }) ≡ verdict_but_full version p k (record { driver = d; wire = w; fall = fall; value = v })
+same_verdict : (version : Version) (p : Plan) (h k : List Edge) (d : Driver) (w : Wire) (fall : Bool) (v : Option Cycle) → drive h d w ≡ drive k d w → rule version (readings p h d) w fall v
+    ≡ rule version (readings p k d) w fall v → settling version p h w fall ≡ settling version p k w fall → verdict_but_full version p h (record { driver = d; wire = w; fall = fall; value = v })
+    ≡ verdict_but_full version p k (record { driver = d; wire = w; fall = fall; value = v })
 same_verdict version p h k d w fall v a b c =
     let exists = is_well_formed (record { driver = d; wire = w; fall = fall; value = v }) && has_driver p d w in
     ap (λ x. answer_of exists x fall (rule version (readings p h d) w fall v) (settling version p h w fall)) a
@@ -201,34 +209,47 @@ all_drives : (p : Plan) (h k : List Edge) (d : Driver) → AreWellFormed h → A
 all_drives p h k d l m e = fun_ext (λ w. same_own p d (λ h. drive h d w) _ false (own_drive p d w) h k l m e)
 
 same_served : (p : Plan) (h k : List Edge) (d : Driver) → AreWellFormed h → AreWellFormed k → noted p h d ≡ noted p k d → is_served p h d ≡ is_served p k d
-same_served p h k d l m e = ap (λ f. option_map_or (λ r. option_map_or (λ i. f i.kind) r.interrupter false) (board_of p d) false) (fun_ext (λ kind. same_own p d (λ h. served_since_request p h d kind) _ false (own_served p d kind) h k l m e))
+same_served p h k d l m e = ap (λ f. option_map_or (λ r. option_map_or (λ i. f i.kind) r.interrupter false) (board_of p d) false)
+    (fun_ext (λ kind. same_own p d (λ h. served_since_request p h d kind) _ false (own_served p d kind) h k l m e))
 
 -- the rule is the same in both histories, if the level last granted is the same
-same_but_last : (version : Version) (p : Plan) → IsInRange p → (h k : List Edge) (d : Driver) (w : Wire) (fall : Bool) (v : Option Cycle) (last : ℕ) → AreWellFormed h → AreWellFormed k → noted p h d ≡ noted p k d → pins p h d ≡ pins p k d → rule version (record (readings p h d) { last_level = last }) w fall v ≡ rule version (record (readings p k d) { last_level = last }) w fall v
+same_but_last : (version : Version) (p : Plan) → IsInRange p → (h k : List Edge) (d : Driver) (w : Wire) (fall : Bool) (v : Option Cycle) (last : ℕ) → AreWellFormed h → AreWellFormed k → noted p h d
+    ≡ noted p k d → pins p h d ≡ pins p k d → rule version (record (readings p h d) { last_level = last }) w fall v ≡ rule version (record (readings p k d) { last_level = last }) w fall v
 same_but_last version p range h k d w fall v last l m e t =
     let row = board_of p d in
     ap (λ x. rule version (gathered p row x (request_line p h) (interrupt_line p h) (pins p h d) last (cycles h d) (has_strobed h d) (is_served p h d)) w fall v) (all_drives p h k d l m e)
-    ∙ ap (λ x. rule version (gathered p row (drive k d) x (interrupt_line p h) (pins p h d) last (cycles h d) (has_strobed h d) (is_served p h d)) w fall v) (fun_ext (same_request p range h k (ap (λ x. x.requests) t)))
-    ∙ ap (λ x. rule version (gathered p row (drive k d) (request_line p k) x (pins p h d) last (cycles h d) (has_strobed h d) (is_served p h d)) w fall v) (fun_ext (same_irq p range h k (ap (λ x. x.irq) t)))
+    ∙ ap (λ x. rule version (gathered p row (drive k d) x (interrupt_line p h) (pins p h d) last (cycles h d) (has_strobed h d) (is_served p h d)) w fall v)
+    (fun_ext (same_request p range h k (ap (λ x. x.requests) t)))
+    ∙ ap (λ x. rule version (gathered p row (drive k d) (request_line p k) x (pins p h d) last (cycles h d) (has_strobed h d) (is_served p h d)) w fall v)
+    (fun_ext (same_irq p range h k (ap (λ x. x.irq) t)))
     ∙ ap (λ x. rule version (gathered p row (drive k d) (request_line p k) (interrupt_line p k) x last (cycles h d) (has_strobed h d) (is_served p h d)) w fall v) t
-    ∙ ap (λ x. rule version (gathered p row (drive k d) (request_line p k) (interrupt_line p k) (pins p k d) last x (has_strobed h d) (is_served p h d)) w fall v) (same_own p d (λ h. cycles h d) _ 0 (own_cycles p d) h k l m e)
-    ∙ ap (λ x. rule version (gathered p row (drive k d) (request_line p k) (interrupt_line p k) (pins p k d) last (cycles k d) x (is_served p h d)) w fall v) (same_own p d (λ h. has_strobed h d) _ false (own_strobed p d) h k l m e)
+    ∙ ap (λ x. rule version (gathered p row (drive k d) (request_line p k) (interrupt_line p k) (pins p k d) last x (has_strobed h d) (is_served p h d)) w fall v)
+    (same_own p d (λ h. cycles h d) _ 0 (own_cycles p d) h k l m e)
+    ∙ ap (λ x. rule version (gathered p row (drive k d) (request_line p k) (interrupt_line p k) (pins p k d) last (cycles k d) x (is_served p h d)) w fall v)
+    (same_own p d (λ h. has_strobed h d) _ false (own_strobed p d) h k l m e)
     ∙ ap (λ x. rule version (gathered p row (drive k d) (request_line p k) (interrupt_line p k) (pins p k d) last (cycles k d) (has_strobed k d) x) w fall v) (same_served p h k d l m e)
 
-controller_same : (version : Version) (p : Plan) → IsInRange p → (h k : List Edge) (w : Wire) (fall : Bool) (v : Option Cycle) → AreWellFormed h → AreWellFormed k → noted p h Controller ≡ noted p k Controller → pins p h Controller ≡ pins p k Controller → rule version (readings p h Controller) w fall v ≡ rule version (readings p k Controller) w fall v
+controller_same : (version : Version) (p : Plan) → IsInRange p → (h k : List Edge) (w : Wire) (fall : Bool) (v : Option Cycle) → AreWellFormed h → AreWellFormed k → noted p h Controller
+    ≡ noted p k Controller → pins p h Controller ≡ pins p k Controller → rule version (readings p h Controller) w fall v ≡ rule version (readings p k Controller) w fall v
 controller_same version p range h k w fall v l m e t =
     same_but_last version p range h k Controller w fall v (last_level h) l m e t
     ∙ ap (λ x. rule version (record (readings p k Controller) { last_level = x }) w fall v) (same_own p Controller last_level _ 0 (own_last p) h k l m e)
 
-board_same : (version : Version) (p : Plan) → IsInRange p → (h k : List Edge) (s : ℕ) (w : Wire) (fall : Bool) (v : Option Cycle) → AreWellFormed h → AreWellFormed k → noted p h (Slot s) ≡ noted p k (Slot s) → pins p h (Slot s) ≡ pins p k (Slot s) → is_grant_wire w ≡ false → is_same_wire w Bclr ≡ false → rule version (readings p h (Slot s)) w fall v ≡ rule version (readings p k (Slot s)) w fall v
+board_same : (version : Version) (p : Plan) → IsInRange p → (h k : List Edge) (s : ℕ) (w : Wire) (fall : Bool) (v : Option Cycle) → AreWellFormed h → AreWellFormed k → noted p h (Slot s)
+    ≡ noted p k (Slot s) → pins p h (Slot s) ≡ pins p k (Slot s) → is_grant_wire w ≡ false → is_same_wire w Bclr ≡ false → rule version (readings p h (Slot s)) w fall v
+    ≡ rule version (readings p k (Slot s)) w fall v
 board_same version p range h k s w fall v l m e t f g =
     sym (board_rule version (readings p h (Slot s)) w fall v 0 f g) ∙ same_but_last version p range h k (Slot s) w fall v 0 l m e t ∙ board_rule version (readings p k (Slot s)) w fall v 0 f g
 
-local_at : (version : Version) (p : Plan) → IsInRange p → (h k : List Edge) (d : Driver) (w : Wire) (fall : Bool) (v : Option Cycle) → AreWellFormed h → AreWellFormed k → is_settled_by_others version w fall ≡ false → noted p h d ≡ noted p k d → pins p h d ≡ pins p k d → verdict_but_full version p h (record { driver = d; wire = w; fall = fall; value = v }) ≡ verdict_but_full version p k (record { driver = d; wire = w; fall = fall; value = v })
-local_at version p range h k Controller w fall v l m c e t = same_verdict version p h k Controller w fall v (same_own p Controller (λ h. drive h Controller w) _ false (own_drive p Controller w) h k l m e) (controller_same version p range h k w fall v l m e t) (same_settling version p h k w fall c)
+local_at : (version : Version) (p : Plan) → IsInRange p → (h k : List Edge) (d : Driver) (w : Wire) (fall : Bool) (v : Option Cycle) → AreWellFormed h → AreWellFormed k → is_settled_by_others version
+    w fall ≡ false → noted p h d ≡ noted p k d → pins p h d ≡ pins p k d → verdict_but_full version p h (record { driver = d; wire = w; fall = fall; value = v }) ≡ verdict_but_full version p k
+    (record { driver = d; wire = w; fall = fall; value = v })
+local_at version p range h k Controller w fall v l m c e t = same_verdict version p h k Controller w fall v (same_own p Controller (λ h. drive h Controller w) _ false (own_drive p Controller w) h k l
+    m e) (controller_same version p range h k w fall v l m e t) (same_settling version p h k w fall c)
 local_at version p range h k (Slot s) (Bg n) fall v l m c e t = refl
 local_at version p range h k (Slot s) Bclr fall v l m c e t = refl
-local_at version p range h k (Slot s) w fall v l m c e t = same_verdict version p h k (Slot s) w fall v (same_own p (Slot s) (λ h. drive h (Slot s) w) _ false (own_drive p (Slot s) w) h k l m e) (board_same version p range h k s w fall v l m e t refl refl) (same_settling version p h k w fall c)
+local_at version p range h k (Slot s) w fall v l m c e t = same_verdict version p h k (Slot s) w fall v (same_own p (Slot s) (λ h. drive h (Slot s) w) _ false (own_drive p (Slot s) w) h k l m e)
+    (board_same version p range h k s w fall v l m e t refl refl) (same_settling version p h k w fall c)
 
 pub local : (version : Version) (p : Plan) (h k : List Edge) (e : Edge) → IsAccepted p → AreWellFormed h → AreWellFormed k → IsLocal version p h k e
 local version p h k e accepted l m c t = local_at version p (in_range p accepted) h k e.driver e.wire e.fall e.value l m c (ap (λ x. x.0) t) (ap (λ x. x.1) t)
@@ -236,7 +257,8 @@ local version p h k e accepted l m c t = local_at version p (in_range p accepted
 -- the edges of a legal list are well formed
 well_formed : (version : Version) (p : Plan) (h : List Edge) → IsLegal version p h → AreWellFormed h
 well_formed version p [] l = refl
-well_formed version p (e ∷ h) l = both (is_well_formed e) (list_all is_well_formed h) (and_left (is_well_formed e) (has_driver p e.driver e.wire) (checked _ NoSuchDriver _ l.0).0) (well_formed version p h l.1)
+well_formed version p (e ∷ h) l = both (is_well_formed e) (list_all is_well_formed h) (and_left (is_well_formed e) (has_driver p e.driver e.wire) (checked _ NoSuchDriver _ l.0).0)
+    (well_formed version p h l.1)
   where
     both : (x y : Bool) → x ≡ true → y ≡ true → (x && y) ≡ true
     both x y e f = grind arith

@@ -23,7 +23,8 @@ abbrev pub on : Plan → ℕ → ℕ → Bool
 on p n s = option_map_or (requests_on n) (board p s) false
 
 -- some row passes if the line is low
-some_row_of : (f : Row → Bool) (P : Row → Type 0) (row : Row) (b rest : Bool) → f row ≡ b → (b || rest) ≡ true → P row → (rest ≡ true → (row : Row) × (f row ≡ true) × P row) → (row : Row) × (f row ≡ true) × P row
+some_row_of : (f : Row → Bool) (P : Row → Type 0) (row : Row) (b rest : Bool) → f row ≡ b → (b || rest) ≡ true → P row → (rest ≡ true → (row : Row) × (f row ≡ true) × P row)
+    → (row : Row) × (f row ≡ true) × P row
 some_row_of f P row true rest e h a next = (row, e, a)
 some_row_of f P row false rest e h a next = next h
 
@@ -37,7 +38,8 @@ pub record IsFound (P : Row → Type 0) (rows : List Row) (s : ℕ) (r : Row) : 
   pub slot : r.slot ≡ s
   pub passes : (f : Row → Bool) → f r ≡ true → list_any f rows ≡ true
 
-found_of : (P : Row → Type 0) (row : Row) (rows : List Row) (s : ℕ) (r : Row) (b : Bool) → (row.slot == s) ≡ b → P row → (if b then Some row else find (λ x. x.slot == s) rows) ≡ Some r → (find (λ x. x.slot == s) rows ≡ Some r → IsFound P rows s r) → IsFound P (row ∷ rows) s r
+found_of : (P : Row → Type 0) (row : Row) (rows : List Row) (s : ℕ) (r : Row) (b : Bool) → (row.slot == s) ≡ b → P row → (if b then Some row else find (λ x. x.slot == s) rows) ≡ Some r
+    → (find (λ x. x.slot == s) rows ≡ Some r → IsFound P rows s r) → IsFound P (row ∷ rows) s r
 found_of P row rows s r true e a h next =
     let same : row ≡ r = cc in
     record { fact = subst P same a; slot = subst (λ x. x.slot ≡ s) same (same_number row.slot s e); passes = λ f g. here (f row) (list_any f rows) (subst (λ x. f x ≡ true) (sym same) g) }
@@ -94,7 +96,8 @@ pub line_low : (p : Plan) → IsInRange p → (h : List Edge) (m s : ℕ) → on
 line_low p range h m s o low =
     let b = has_board p m s o in
     let f = found_row (IsRowInRange p) p.rows s b.row range.rows b.is_board in
-    f.passes (λ r. drives Bbsy r && drive h (Slot r.slot) Bbsy) (both (is_some b.row.requester) (drive h (Slot b.row.slot) Bbsy) (requests_some b.row m b.row.requester b.requests) (subst (λ x. drive h (Slot x) Bbsy ≡ true) (sym f.slot) low))
+    f.passes (λ r. drives Bbsy r && drive h (Slot r.slot) Bbsy) (both (is_some b.row.requester) (drive h (Slot b.row.slot) Bbsy) (requests_some b.row m b.row.requester b.requests)
+    (subst (λ x. drive h (Slot x) Bbsy ≡ true) (sym f.slot) low))
   where
     both : (x y : Bool) → x ≡ true → y ≡ true → (x && y) ≡ true
     both x y e f = grind arith
@@ -127,13 +130,15 @@ pub record HasLevel (p : Plan) (h : List Edge) (s : ℕ) : Type 0 where
   pub member : on p level s ≡ true
   pub grant : grant_in p h (Slot s) ≡ input p h (grant_chain level) s
 
-level_with : (p : Plan) (h : List Edge) (s : ℕ) (r : Row) (found : Option RequesterRow) → r.slot ≡ s → board p s ≡ Some r → r.requester ≡ found → is_some found ≡ true → IfSome found (λ q. q.level < 4) → HasLevel p h s
+level_with : (p : Plan) (h : List Edge) (s : ℕ) (r : Row) (found : Option RequesterRow) → r.slot ≡ s → board p s ≡ Some r → r.requester ≡ found → is_some found ≡ true
+    → IfSome found (λ q. q.level < 4) → HasLevel p h s
 level_with p h s r None same e f some l = absurd (cc)
 level_with p h s r (Some q) same e f some l = record {
   level = q.level;
   in_range = l;
   member = ap (λ x. option_map_or (requests_on q.level) x false) e ∙ (ap (λ x. option_map_or (λ y. y.level == q.level) x false) f ∙ self q.level);
-  grant = ap (λ x. option_map_or (λ y. option_map_or (λ z. input p h (grant_chain z.level) y.slot) y.requester false) x false) e ∙ ap (λ x. option_map_or (λ z. input p h (grant_chain z.level) r.slot) x false) f ∙ ap (input p h (grant_chain q.level)) same;
+  grant = ap (λ x. option_map_or (λ y. option_map_or (λ z. input p h (grant_chain z.level) y.slot) y.requester false) x false) e
+      ∙ ap (λ x. option_map_or (λ z. input p h (grant_chain z.level) r.slot) x false) f ∙ ap (input p h (grant_chain q.level)) same;
 }
   where
     self : (n : ℕ) → (n == n) ≡ true

@@ -128,11 +128,13 @@ negated low false e = sym (ap not e)
 is_turned : (h : List Edge) (d : Driver) (w : Wire) (fall : Bool) → drive h d w ≡ not fall → Contains (turned h d w ∷ []) (edge d w fall None)
 is_turned h d w fall before = subst (λ b. Contains (turned h d w ∷ []) (edge d w b None)) (sym (negated (drive h d w) fall before)) (here (turned h d w) [])
 
-going_on : (h : List Edge) (d : Driver) (low : Bool) (c : Cycle) → low ≡ false → is_in_range c ≡ true → Contains (if low then turned h d Addr ∷ [] else map (showing d) (acknowledges ++ accesses)) (showing d c)
+going_on : (h : List Edge) (d : Driver) (low : Bool) (c : Cycle) → low ≡ false → is_in_range c ≡ true → Contains (if low then turned h d Addr ∷ [] else map (showing d) (acknowledges ++ accesses))
+    (showing d c)
 going_on h d true c off r = cc
 going_on h d false c off r = by_map (showing d) (acknowledges ++ accesses) c (a_cycle c r)
 
-going_off : (h : List Edge) (d : Driver) (low : Bool) → drive h d Addr ≡ low → low ≡ true → Contains (if low then turned h d Addr ∷ [] else map (showing d) (acknowledges ++ accesses)) (edge d Addr false None)
+going_off : (h : List Edge) (d : Driver) (low : Bool) → drive h d Addr ≡ low → low ≡ true → Contains (if low then turned h d Addr ∷ [] else map (showing d) (acknowledges ++ accesses))
+    (edge d Addr false None)
 going_off h d true is on = is_turned h d Addr false is
 going_off h d false is on = cc
 

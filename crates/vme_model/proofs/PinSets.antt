@@ -51,7 +51,9 @@ pick_irq s t (suc (suc (suc (suc (suc zero))))) l h e =
 pick_irq s t (suc (suc (suc (suc (suc (suc zero)))))) l h e =
     agreed (s 6) (t 6) (and_left _ _ (and_right (at_place s t 5) _ (and_right (at_place s t 4) _ (and_right (at_place s t 3) _ (and_right (at_place s t 2) _ (and_right (at_place s t 1) _ e))))))
 pick_irq s t (suc (suc (suc (suc (suc (suc (suc zero))))))) l h e =
-    agreed (s 7) (t 7) (and_left _ _ (and_right (at_place s t 6) _ (and_right (at_place s t 5) _ (and_right (at_place s t 4) _ (and_right (at_place s t 3) _ (and_right (at_place s t 2) _ (and_right (at_place s t 1) _ e)))))))
+    agreed (s 7) (t 7)
+    (and_left _ _
+    (and_right (at_place s t 6) _ (and_right (at_place s t 5) _ (and_right (at_place s t 4) _ (and_right (at_place s t 3) _ (and_right (at_place s t 2) _ (and_right (at_place s t 1) _ e)))))))
 pick_irq s t (suc (suc (suc (suc (suc (suc (suc (suc n)))))))) l h e = absurd (omega arith)
 
 pub has_irq : (low : ℕ → Bool) (n : ℕ) → 1 ≤ n → n ≤ 7 → has_level (irq_levels low) n ≡ low n

@@ -83,7 +83,8 @@ irq_level : (found : Option InterrupterRow) → option_map_or (λ i. not (is_lev
 irq_level None e = tt
 irq_level (Some i) e = (irq_from i.level e, irq_to i.level e)
 
-four_passed : (a b c d : Bool) (e f g h : Field) (rest : List (Option Field)) → first_of (when a e ∷ when b f ∷ when c g ∷ when d h ∷ rest) ≡ None → (a ≡ false) × (b ≡ false) × (c ≡ false) × (d ≡ false)
+four_passed : (a b c d : Bool) (e f g h : Field) (rest : List (Option Field)) → first_of (when a e ∷ when b f ∷ when c g ∷ when d h ∷ rest) ≡ None → (a ≡ false) × (b ≡ false)
+    × (c ≡ false) × (d ≡ false)
 four_passed a b c d e f g h rest n =
     let w = first_none (when a e) (when b f ∷ when c g ∷ when d h ∷ rest) n in
     let x = first_none (when b f) (when c g ∷ when d h ∷ rest) w.1 in
@@ -93,7 +94,9 @@ four_passed a b c d e f g h rest n =
 
 fields_of : (slots : ℕ) (r : Row) → row_range slots r ≡ None → FieldsOf slots r
 fields_of slots r e =
-    let q = four_passed (not (is_within slots r.slot)) (option_map_or (λ q. nat_lt 3 q.level) r.requester false) (option_map_or (λ q. has_no_burst q.release) r.requester false) (option_map_or (λ i. not (is_level i.level)) r.interrupter false) field.Slot field.RequesterLevel field.RequesterBurst field.InterrupterLevel (when (nat_lt 127 (bits_of_levels r.handler)) field.Handler ∷ []) e in
+    let q = four_passed (not (is_within slots r.slot)) (option_map_or (λ q. nat_lt 3 q.level) r.requester false) (option_map_or (λ q. has_no_burst q.release) r.requester false)
+    (option_map_or (λ i. not (is_level i.level)) r.interrupter false) field.Slot field.RequesterLevel field.RequesterBurst field.InterrupterLevel
+    (when (nat_lt 127 (bits_of_levels r.handler)) field.Handler ∷ []) e in
     record {
       from_one = from_one_of slots r.slot q.0;
       to_last = to_last_of slots r.slot q.0;
@@ -167,7 +170,8 @@ none_found test (suc n) e s from to =
     split [] e = (refl, last (test (suc n)) (suc n) refl e)
     split (x ∷ xs) e = go (test x) e (split xs)
       where
-        go : (b : Bool) → (if b then Some x else find test (xs ++ suc n ∷ [])) ≡ None → (find test (xs ++ suc n ∷ []) ≡ None → (find test xs ≡ None) × (test (suc n) ≡ false)) → ((if b then Some x else find test xs) ≡ None) × (test (suc n) ≡ false)
+        go : (b : Bool) → (if b then Some x else find test (xs ++ suc n ∷ [])) ≡ None → (find test (xs ++ suc n ∷ []) ≡ None → (find test xs ≡ None) × (test (suc n) ≡ false))
+            → ((if b then Some x else find test xs) ≡ None) × (test (suc n) ≡ false)
         go true e next = absurd (cc)
         go false e next = next e
 
@@ -202,7 +206,8 @@ in_range p e =
     let a = first_none (too_many_slots p) _ e in
     let b = first_none (out_of_range p) _ a.1 in
     let twice = not_twice p e in
-    let fields = each_none (row_range p.slots) p.rows (front_none (map (row_range p.slots) p.rows) (map (jumper_range p.slots) p.jumpers) (first_none (when (p.slots == 0) _) _ (mapped_none (λ f. error.OutOfRange f) _ b.0)).1) in
+    let fields = each_none (row_range p.slots) p.rows (front_none (map (row_range p.slots) p.rows) (map (jumper_range p.slots) p.jumpers)
+    (first_none (when (p.slots == 0) _) _ (mapped_none (λ f. error.OutOfRange f) _ b.0)).1) in
     record {
       most = few p.slots (none_when (nat_lt 21 p.slots) _ a.0);
       rows = all_both (λ r. row_range p.slots r ≡ None) (IsAlone p.rows) (IsRowInRange p) (λ r f alone. row_of twice r (fields_of p.slots r f) alone) p.rows fields (each_alone p.rows);

@@ -68,7 +68,8 @@ both rule [] ys x y = y
 both rule (t ∷ xs) ys x y = one (has_condition rule t.condition) x (both rule xs ys)
   where
     one : (b : Bool) → b && list_all (λ (t : Tested). has_condition rule t.condition) xs ≡ true
-        → (list_all (λ (t : Tested). has_condition rule t.condition) xs ≡ true → list_all (λ (t : Tested). has_condition rule t.condition) ys ≡ true → list_all (λ (t : Tested). has_condition rule t.condition) (xs ++ ys) ≡ true)
+        → (list_all (λ (t : Tested). has_condition rule t.condition) xs ≡ true → list_all (λ (t : Tested). has_condition rule t.condition) ys ≡ true
+        → list_all (λ (t : Tested). has_condition rule t.condition) (xs ++ ys) ≡ true)
         → b && list_all (λ (t : Tested). has_condition rule t.condition) (xs ++ ys) ≡ true
     one true e rest = rest e y
     one false e rest = cc
@@ -90,7 +91,8 @@ sourced version r BgOut true v = refl
 sourced version r BgOut false v = refl
 sourced version r Bbsy true v = refl
 sourced version r Bbsy false v = of_board G14 (λ q. released (list_any r.request bus_numbers) q.release) (λ q. by_release (list_any r.request bus_numbers) q.release) r.board
-sourced version r Addr true v = both G15 (conditions (burst_guard r)) (conditions (show_guard r v)) (of_board G15 (λ q. below_burst r.cycles q.release) (λ q. by_burst r.cycles q.release) r.board) (by_value _ _ v)
+sourced version r Addr true v = both G15 (conditions (burst_guard r)) (conditions (show_guard r v)) (of_board G15 (λ q. below_burst r.cycles q.release) (λ q. by_burst r.cycles q.release) r.board)
+    (by_value _ _ v)
 sourced version r Addr false v = refl
 sourced version r AddressStrobe true v = refl
 sourced version r AddressStrobe false v = refl
@@ -113,7 +115,8 @@ settled Two p h (Bg n) true = refl
 settled One p h (Bg n) false = refl
 settled Two p h (Bg n) false = by_busy (line p h Bbsy)
   where
-    by_busy : (busy : Bool) → list_all (λ (t : Tested). has_condition S3 t.condition) (if busy then [] else record { condition = PassedTheLastBoard; holds = is_past_end p h (grant_chain n) } ∷ []) ≡ true
+    by_busy : (busy : Bool) → list_all (λ (t : Tested). has_condition S3 t.condition) (if busy then [] else record { condition = PassedTheLastBoard; holds = is_past_end p h (grant_chain n) } ∷ [])
+        ≡ true
     by_busy true = refl
     by_busy false = refl
 settled version p h Bclr true = refl

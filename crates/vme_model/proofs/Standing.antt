@@ -25,7 +25,8 @@ use Rattle.vme_model.proofs.Bools.{and_left, and_right, never}
 use Rattle.vme_model.proofs.OpenEdges.{here, there, by_map, by_flat_map}
 
 -- what a search finds passes and is in the list, and it finds nothing only if nothing passes
-found_step : {X : Type 0} (test : X → Bool) (y x : X) (ys : List X) (b : Bool) → test y ≡ b → (if b then Some y else find test ys) ≡ Some x → (find test ys ≡ Some x → (test x ≡ true) × Contains ys x) → (test x ≡ true) × Contains (y ∷ ys) x
+found_step : {X : Type 0} (test : X → Bool) (y x : X) (ys : List X) (b : Bool) → test y ≡ b → (if b then Some y else find test ys) ≡ Some x → (find test ys ≡ Some x → (test x ≡ true) × Contains ys x)
+    → (test x ≡ true) × Contains (y ∷ ys) x
 found_step test y x ys true e h next =
     let same : y ≡ x = cc in (subst (λ z. test z ≡ true) same e, subst (λ z. Contains (y ∷ ys) z) same (here y ys))
 found_step test y x ys false e h next = ((next h).0, there y x ys (next h).1)

@@ -30,19 +30,22 @@ all_high f h (row ∷ rows) = both (f row.slot) (list_all (λ r. not (f r.slot))
     both x y e f = grind arith
 
 -- the four tests, again
-again : (a b : Bool) (named settles : ℕ × Bool) → a ≡ true → b ≡ true → named.1 ≡ true → settles.1 ≡ true → check a NoSuchDriver (check b AlreadyThere (check named.1 (Rule named.0) (check settles.1 (NotSettled settles.0) (Ok tt)))) ≡ Ok tt
+again : (a b : Bool) (named settles : ℕ × Bool) → a ≡ true → b ≡ true → named.1 ≡ true → settles.1 ≡ true
+    → check a NoSuchDriver (check b AlreadyThere (check named.1 (Rule named.0) (check settles.1 (NotSettled settles.0) (Ok tt)))) ≡ Ok tt
 again a b named settles e f g h = cc
 
 or_left : (x y : Bool) → x ≡ true → (x || y) ≡ true
 or_left x y e = grind arith
 
-allowed_too : (p : Plan) → IsInRange p → (h : List Edge) (d : Driver) (w : Wire) (fall : Bool) (v : Option Cycle) → verdict_but_full One p h (record { driver = d; wire = w; fall = fall; value = v }) ≡ Ok tt → Now One p h → verdict_but_full Two p h (record { driver = d; wire = w; fall = fall; value = v }) ≡ Ok tt
+allowed_too : (p : Plan) → IsInRange p → (h : List Edge) (d : Driver) (w : Wire) (fall : Bool) (v : Option Cycle) → verdict_but_full One p h (record { driver = d; wire = w; fall = fall; value = v })
+    ≡ Ok tt → Now One p h → verdict_but_full Two p h (record { driver = d; wire = w; fall = fall; value = v }) ≡ Ok tt
 allowed_too p range h Controller (Bg n) true v l now =
     let a = checked _ NoSuchDriver _ l in
     let b = checked _ AlreadyThere _ a.1 in
     let q = all_passed One p h Controller (Bg n) true v l in
     let r = and_left _ _ q.rule in
-    again _ _ _ _ a.0 b.0 q.rule (all_high (λ s. drive h (Slot s) BgOut) (clear_before (on p) p.slots false refl (grant_wires p h) (grants_high (λ m. drive h Controller (Bg m)) (and_left _ _ r)) (all_free p range h (not_true _ (and_right _ _ r))) now) p.rows)
+    again _ _ _ _ a.0 b.0 q.rule (all_high (λ s. drive h (Slot s) BgOut) (clear_before (on p) p.slots false refl (grant_wires p h) (grants_high (λ m. drive h Controller (Bg m)) (and_left _ _ r))
+    (all_free p range h (not_true _ (and_right _ _ r))) now) p.rows)
 allowed_too p range h Controller (Bg n) false v l now =
     let a = checked _ NoSuchDriver _ l in
     let b = checked _ AlreadyThere _ a.1 in

@@ -88,7 +88,8 @@ abbrev pub other_sentence : Rule → List ℕ
 other_sentence S1 = codes "No cycle begins until the IACK chain of the last cycle is high again."
 other_sentence S2 = codes "The bus timer waits until no board is left that can answer."
 other_sentence S3 = codes "Version 2: a grant times out only when it has passed every board."
-other_sentence S4 = codes "Version 2: a new grant waits until the last one has risen at every board."
+other_sentence S4 =
+    codes "Version 2: a new grant waits until the last one has risen at every board."
 other_sentence E5 = codes "A trace has at most 1,048,576 accepted edges."
 other_sentence r = []
 
@@ -110,7 +111,8 @@ interrupters_sentence r = other_sentence r
 -- the sentence of a rule of requesters or masters
 abbrev pub board_sentence : Rule → List ℕ
 board_sentence G9 = codes "The owner of the bus does not request it."
-board_sentence G10 = codes "A request stays asserted until it is met. Version 2: it may be withdrawn."
+board_sentence G10 =
+    codes "A request stays asserted until it is met. Version 2: it may be withdrawn."
 board_sentence G11 = codes "A board that does not want the grant passes it on."
 board_sentence G12 = codes "A grant chain rises board by board, from its beginning."
 board_sentence G13 = codes "A requester takes the grant that reaches it."
@@ -136,11 +138,13 @@ sentence G1 =
     codes "The arbiter grants the level that its policy picks, one grant at a time, while the bus "
     ++ codes "has no owner."
 sentence G2 =
-    codes "A grant stays asserted until a board has taken it. Version 2: it may also time out, by S3."
+    codes
+    "A grant stays asserted until a board has taken it. Version 2: it may also time out, by S3."
 sentence G3 =
     codes "A priority arbiter asks the owner to release the bus for a request of a higher level."
 sentence G4 = codes "Bus clear stays asserted as long as it is due."
-sentence G5 = codes "The daisy-chain driver starts the IACK chain for the acknowledge that is shown."
+sentence G5 =
+    codes "The daisy-chain driver starts the IACK chain for the acknowledge that is shown."
 sentence G6 = codes "The daisy-chain driver keeps the IACK chain low until the cycle ends."
 sentence G7 = codes "The bus timer ends a cycle that nobody answers."
 sentence G8 = codes "A bus error stays asserted until the master has seen it."

@@ -40,7 +40,8 @@ IsFaultOf bytes f = option_map fault_of (said.read_of bytes).fault ≡ Some f
 -- in them: they are whole moments, ones that are cut off, or nothing.
 abbrev pub CanGoOn : List ℕ → Type 0
 CanGoOn bytes =
-    ((said.read_of bytes).fault ≡ None) ⊎ ((said.read_of bytes).fault ≡ Some (said.of_trace cut_off))
+    ((said.read_of bytes).fault ≡ None)
+    ⊎ ((said.read_of bytes).fault ≡ Some (said.of_trace cut_off))
     ⊎ (bytes ≡ [])
 
 -- these are all the bytes that the input had to give

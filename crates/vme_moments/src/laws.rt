@@ -51,7 +51,8 @@ pub fn the_longest_is_an_order_if_one_is_legal()
 pub fn what_comes_next_is_refused()
     ensures some { (version : Version) (plan : Plan) (slacks : Slacks) (seen : List Seen)
         (places : List ℕ) → AreInOrder seen → length places ≢ length seen
-        → IsLongest version plan slacks seen places → (place : ℕ) × IsFree slacks seen places place }
+        → IsLongest version plan slacks seen places
+        → (place : ℕ) × IsFree slacks seen places place }
     ensures refused { (version : Version) (plan : Plan) (slacks : Slacks) (seen : List Seen)
         (places : List ℕ) (place : ℕ) → IsLongest version plan slacks seen places
         → ¬ IsLegalBeginning version plan slacks seen (place ∷ places) }

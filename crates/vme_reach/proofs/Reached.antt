@@ -293,11 +293,13 @@ asks_by : (is_asked : Bool) (r : Release) → is_alone Asked (failed (released i
 asks_by is_asked (Done burst) h = absurd (never h)
 asks_by is_asked Request h = refl
 
-asks_of : (is_asked : Bool) (q : Option RequesterRow) → is_alone Asked (failed (option_map_or (λ x. released is_asked x.release) q free)) ≡ true → option_map_or (λ x. is_on_request x.release) q false ≡ true
+asks_of : (is_asked : Bool) (q : Option RequesterRow) → is_alone Asked (failed (option_map_or (λ x. released is_asked x.release) q free)) ≡ true
+    → option_map_or (λ x. is_on_request x.release) q false ≡ true
 asks_of is_asked None h = absurd (never h)
 asks_of is_asked (Some q) h = asks_by is_asked q.release h
 
-asks_at : (is_asked : Bool) (o : Option Row) → is_alone Asked (failed (option_map_or (λ x. released is_asked x.release) (option_and_then (λ r. r.requester) o) free)) ≡ true → option_map_or (board_has need.OnRequest) o false ≡ true
+asks_at : (is_asked : Bool) (o : Option Row) → is_alone Asked (failed (option_map_or (λ x. released is_asked x.release) (option_and_then (λ r. r.requester) o) free)) ≡ true
+    → option_map_or (board_has need.OnRequest) o false ≡ true
 asks_at is_asked None h = absurd (never h)
 asks_at is_asked (Some r) h = asks_of is_asked r.requester h
 

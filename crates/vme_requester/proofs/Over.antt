@@ -26,9 +26,12 @@ by_parts s row version noted pins free Bbsy false v own = refl
 by_parts s row version noted pins free w f v own = absurd (cc)
 
 -- a state that comes from a list answers as the list says, for an edge of the wire x, which is w
-pub answers_over : (state : RequesterState) (noted : List Edge) (pins : Pins) (free : Bool) (w x : Wire) (f : Bool) (v : Option Cycle) → state ≡ requester_of state.slot state.row state.version noted → w ≡ x → is_of parts.Requester x ≡ true →
-    ruling_on state.version (requester_readings state.slot state.row (low state) pins free) x f v ≡ ruling_on state.version (requester_readings state.slot state.row (drive noted (Slot state.slot)) pins free) w f v
+pub answers_over : (state : RequesterState) (noted : List Edge) (pins : Pins) (free : Bool) (w x : Wire) (f : Bool) (v : Option Cycle) → state ≡ requester_of state.slot state.row state.version noted
+    → w ≡ x → is_of parts.Requester x ≡ true →
+    ruling_on state.version (requester_readings state.slot state.row (low state) pins free) x f v ≡ ruling_on state.version
+    (requester_readings state.slot state.row (drive noted (Slot state.slot)) pins free) w f v
 answers_over state noted pins free w x f v same is own =
-    let P : RequesterState → Type 0 = λ q. ruling_on state.version (requester_readings state.slot state.row (low q) pins free) x f v ≡ ruling_on state.version (requester_readings state.slot state.row (drive noted (Slot state.slot)) pins free) x f v in
+    let P : RequesterState → Type 0 = λ q. ruling_on state.version (requester_readings state.slot state.row (low q) pins free) x f v ≡ ruling_on state.version
+    (requester_readings state.slot state.row (drive noted (Slot state.slot)) pins free) x f v in
     subst P (sym same) (by_parts state.slot state.row state.version noted pins free x f v own)
     ∙ ap (λ y. ruling_on state.version (requester_readings state.slot state.row (drive noted (Slot state.slot)) pins free) y f v) (sym is)

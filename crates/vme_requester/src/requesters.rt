@@ -219,7 +219,8 @@ impl Requester {
     /// E3 if the rule's guard fails.
     #[inline(always)]
     pub fn may(&self, edge: Edge, pins: Pins, is_address_free: bool) -> Result<(), Refused>
-        ensures other { is_of parts.Requester edge.wire ≡ false → result ≡ Err Refused.NoSuchDriver }
+        ensures other { is_of parts.Requester edge.wire ≡ false
+            → result ≡ Err Refused.NoSuchDriver }
         ensures own { (noted : List EdgeValue) →
             self.now ≡ requester_of self.now.slot self.now.row self.now.version noted →
             is_of parts.Requester edge.wire ≡ true →

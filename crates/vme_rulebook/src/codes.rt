@@ -52,6 +52,15 @@ pub enum Code {
     X17,
 }
 
+/// What stands for a code in a table of all codes.
+macro_rules! by_code {
+    ($code:expr; $($name:ident => $value:expr),* $(,)?) => {
+        match $code {
+            $(Code::$name => $value,)*
+        }
+    };
+}
+
 impl Code {
     /// All codes that are no rules, in the order of their names.
     pub const ALL: [Code; 41] = [
@@ -103,49 +112,14 @@ impl Code {
         ensures text { result.now ≡ said.code_name self }
         ensures short { length result.now ≤ 3 }
     {
-        match self {
-            Code::E3 => "E3",
-            Code::E4 => "E4",
-            Code::F1 => "F1",
-            Code::F2 => "F2",
-            Code::F3 => "F3",
-            Code::F4 => "F4",
-            Code::F5 => "F5",
-            Code::F6 => "F6",
-            Code::L3 => "L3",
-            Code::L4 => "L4",
-            Code::L6 => "L6",
-            Code::P1 => "P1",
-            Code::P2 => "P2",
-            Code::P3 => "P3",
-            Code::P4 => "P4",
-            Code::P5 => "P5",
-            Code::P6 => "P6",
-            Code::P7 => "P7",
-            Code::P8 => "P8",
-            Code::P9 => "P9",
-            Code::Q1 => "Q1",
-            Code::Q2 => "Q2",
-            Code::Q3 => "Q3",
-            Code::Q4 => "Q4",
-            Code::Q6 => "Q6",
-            Code::X1 => "X1",
-            Code::X2 => "X2",
-            Code::X3 => "X3",
-            Code::X4 => "X4",
-            Code::X5 => "X5",
-            Code::X6 => "X6",
-            Code::X8 => "X8",
-            Code::X9 => "X9",
-            Code::X10 => "X10",
-            Code::X11 => "X11",
-            Code::X12 => "X12",
-            Code::X13 => "X13",
-            Code::X14 => "X14",
-            Code::X15 => "X15",
-            Code::X16 => "X16",
-            Code::X17 => "X17",
-        }
+        by_code!(self;
+            E3 => "E3", E4 => "E4", F1 => "F1", F2 => "F2", F3 => "F3", F4 => "F4", F5 => "F5",
+            F6 => "F6", L3 => "L3", L4 => "L4", L6 => "L6", P1 => "P1", P2 => "P2", P3 => "P3",
+            P4 => "P4", P5 => "P5", P6 => "P6", P7 => "P7", P8 => "P8", P9 => "P9", Q1 => "Q1",
+            Q2 => "Q2", Q3 => "Q3", Q4 => "Q4", Q6 => "Q6", X1 => "X1", X2 => "X2", X3 => "X3",
+            X4 => "X4", X5 => "X5", X6 => "X6", X8 => "X8", X9 => "X9", X10 => "X10", X11 => "X11",
+            X12 => "X12", X13 => "X13", X14 => "X14", X15 => "X15", X16 => "X16", X17 => "X17",
+        )
     }
 
     /// The code explained, in lines of at most 80 bytes and 512 bytes in all: first the code with
@@ -154,49 +128,17 @@ impl Code {
         ensures text { result.now ≡ said.code_text self }
         ensures short { length result.now ≤ 512 }
     {
-        match self {
-            Code::E3 => texts::E3,
-            Code::E4 => texts::E4,
-            Code::F1 => texts::F1,
-            Code::F2 => texts::F2,
-            Code::F3 => texts::F3,
-            Code::F4 => texts::F4,
-            Code::F5 => texts::F5,
-            Code::F6 => texts::F6,
-            Code::L3 => texts::L3,
-            Code::L4 => texts::L4,
-            Code::L6 => texts::L6,
-            Code::P1 => texts::P1,
-            Code::P2 => texts::P2,
-            Code::P3 => texts::P3,
-            Code::P4 => texts::P4,
-            Code::P5 => texts::P5,
-            Code::P6 => texts::P6,
-            Code::P7 => texts::P7,
-            Code::P8 => texts::P8,
-            Code::P9 => texts::P9,
-            Code::Q1 => texts::Q1,
-            Code::Q2 => texts::Q2,
-            Code::Q3 => texts::Q3,
-            Code::Q4 => texts::Q4,
-            Code::Q6 => texts::Q6,
-            Code::X1 => texts::X1,
-            Code::X2 => texts::X2,
-            Code::X3 => texts::X3,
-            Code::X4 => texts::X4,
-            Code::X5 => texts::X5,
-            Code::X6 => texts::X6,
-            Code::X8 => texts::X8,
-            Code::X9 => texts::X9,
-            Code::X10 => texts::X10,
-            Code::X11 => texts::X11,
-            Code::X12 => texts::X12,
-            Code::X13 => texts::X13,
-            Code::X14 => texts::X14,
-            Code::X15 => texts::X15,
-            Code::X16 => texts::X16,
-            Code::X17 => texts::X17,
-        }
+        by_code!(self;
+            E3 => texts::E3, E4 => texts::E4, F1 => texts::F1, F2 => texts::F2, F3 => texts::F3,
+            F4 => texts::F4, F5 => texts::F5, F6 => texts::F6, L3 => texts::L3, L4 => texts::L4,
+            L6 => texts::L6, P1 => texts::P1, P2 => texts::P2, P3 => texts::P3, P4 => texts::P4,
+            P5 => texts::P5, P6 => texts::P6, P7 => texts::P7, P8 => texts::P8, P9 => texts::P9,
+            Q1 => texts::Q1, Q2 => texts::Q2, Q3 => texts::Q3, Q4 => texts::Q4, Q6 => texts::Q6,
+            X1 => texts::X1, X2 => texts::X2, X3 => texts::X3, X4 => texts::X4, X5 => texts::X5,
+            X6 => texts::X6, X8 => texts::X8, X9 => texts::X9, X10 => texts::X10, X11 => texts::X11,
+            X12 => texts::X12, X13 => texts::X13, X14 => texts::X14, X15 => texts::X15,
+            X16 => texts::X16, X17 => texts::X17,
+        )
     }
 
     /// The code of that name, if there is one.

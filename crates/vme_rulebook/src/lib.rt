@@ -1,5 +1,5 @@
-//! The rules in words, and of one rule where each of its conditions comes from. Every other code that
-//! the program prints, explained.
+//! The rules in words, and of one rule where each of its conditions comes from. Every other code
+//! that the program prints, explained.
 #![tactic(auto)]
 
 mod codes;

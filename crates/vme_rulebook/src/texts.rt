@@ -1,5 +1,5 @@
-//! The texts of the codes that are no rules, word for word as the pages have them: docs/RULES.md those
-//! of E3 and E4, and docs/FAULTS.md the others.
+//! The texts of the codes that are no rules, word for word as the pages have them: docs/RULES.md
+//! those of E3 and E4, and docs/FAULTS.md the others.
 
 pub(crate) const E3: &str = "E3 Gk
 The edge's own rule Gk refuses it, because a condition of the rule does not

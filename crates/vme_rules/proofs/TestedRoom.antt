@@ -68,9 +68,11 @@ module _ (version : Version) (p : Plan) (h : List Edge) (r : Readings) where
   five_with_settling BgOut false v = omega arith
   five_with_settling Bbsy true v = omega arith
   five_with_settling Bbsy false v =
-      let release : most (release_guard r) ≤ 1 = one_of_option (λ (q : RequesterRow). released (list_any r.request bus_numbers) q.release) (option_and_then (λ b. b.requester) r.board) (λ (q : RequesterRow). one_of_released (list_any r.request bus_numbers) q.release) in omega (arith, release)
+      let release : most (release_guard r) ≤ 1 = one_of_option (λ (q : RequesterRow). released (list_any r.request bus_numbers) q.release) (option_and_then (λ b. b.requester) r.board)
+      (λ (q : RequesterRow). one_of_released (list_any r.request bus_numbers) q.release) in omega (arith, release)
   five_with_settling Addr true v =
-      let burst : most (burst_guard r) ≤ 1 = one_of_option (λ (q : RequesterRow). below_burst r.cycles q.release) (option_and_then (λ b. b.requester) r.board) (λ (q : RequesterRow). one_of_burst r.cycles q.release) in
+      let burst : most (burst_guard r) ≤ 1 = one_of_option (λ (q : RequesterRow). below_burst r.cycles q.release) (option_and_then (λ b. b.requester) r.board)
+      (λ (q : RequesterRow). one_of_burst r.cycles q.release) in
       let show : most (show_guard r v) ≤ 2 = two_of_shown (λ level. option_map_or (λ b. has_level b.handler level) r.board false) r.irq v in omega (arith, burst, show)
   five_with_settling Addr false v = omega arith
   five_with_settling AddressStrobe true v = omega arith
@@ -98,4 +100,5 @@ module _ (version : Version) (p : Plan) (h : List Edge) (e : Edge) where
   by_tests true true true true n m = with_settling
 
   pub five_tested : most (tested_but_full version p h e) ≤ 5
-  five_tested = by_tests (is_well_formed e && has_driver p e.driver e.wire) (is_other_state (drive h e.driver e.wire) e.fall) (rule version (readings p h e.driver) e.wire e.fall e.value).1 (settled version p h e) (rule version (readings p h e.driver) e.wire e.fall e.value).0 (settling version p h e.wire e.fall).0
+  five_tested = by_tests (is_well_formed e && has_driver p e.driver e.wire) (is_other_state (drive h e.driver e.wire) e.fall) (rule version (readings p h e.driver) e.wire e.fall e.value).1
+      (settled version p h e) (rule version (readings p h e.driver) e.wire e.fall e.value).0 (settling version p h e.wire e.fall).0

@@ -58,7 +58,8 @@ pub fn answers<A: Outcome>(
     is_own_slot: bool,
     shown: Option<Cycle>,
 ) -> A
-    ensures { A.reports result (answers iack_in iackout (λ _. is_pending) (λ _. is_own_slot) shown) }
+    ensures { A.reports result
+        (answers iack_in iackout (λ _. is_pending) (λ _. is_own_slot) shown) }
 {
     match shown {
         Some(Cycle::Acknowledge(_)) => A::asks(Condition::AcknowledgeInLow, iack_in)

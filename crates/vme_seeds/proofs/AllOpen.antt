@@ -195,7 +195,8 @@ falls_on_some (c ∷ cs) x below = by (nat_lt x c) refl (λ (y : ℕ) (l : y < s
     next_is false n h = omega arith
     next_is true n h = absurd (cc)
 
-    by : (t : Bool) → nat_lt x c ≡ t → ((y : ℕ) → y < sum cs → (falls_at cs y < length cs) × (0 < slice_index cs (falls_at cs y))) → (falls_at (c ∷ cs) x < length (c ∷ cs)) × (0 < slice_index (c ∷ cs) (falls_at (c ∷ cs) x))
+    by : (t : Bool) → nat_lt x c ≡ t → ((y : ℕ) → y < sum cs → (falls_at cs y < length cs) × (0 < slice_index cs (falls_at cs y))) → (falls_at (c ∷ cs) x < length (c ∷ cs))
+        × (0 < slice_index (c ∷ cs) (falls_at (c ∷ cs) x))
     by true is later =
         let here : falls_at (c ∷ cs) x ≡ 0 = first_is (nat_lt x c) _ is in
         let some : 0 < c = grind (arith, nat_tests) in

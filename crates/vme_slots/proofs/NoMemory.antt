@@ -42,7 +42,8 @@ plain_fault p =
     plain_first (out_of_range p) _ (plain_map (λ (f : Field). error.OutOfRange f) _ (λ f. refl)) (
     plain_first (no_controller p) _ (plain_when (is_none (board p 1)) _ refl) (
     plain_first (slot_twice p) _ (plain_map (λ (s : ℕ). error.SlotTwice s) _ (λ s. refl)) (
-    plain_first (chain_broken p) _ (plain_each (λ (s : ℕ). option_map (λ c. error.ChainBroken s c) (find (is_broken p s) chains)) (up_to p.slots) (λ s. plain_map (λ (c : ChainId). error.ChainBroken s c) _ (λ c. refl))) (
+    plain_first (chain_broken p) _ (plain_each (λ (s : ℕ). option_map (λ c. error.ChainBroken s c) (find (is_broken p s) chains)) (up_to p.slots)
+    (λ s. plain_map (λ (c : ChainId). error.ChainBroken s c) _ (λ c. refl))) (
     plain_first (level_not_served p) _ (plain_map (λ (r : Row). error.LevelNotServed r.slot) _ (λ r. refl)) (
     plain_first (handler_twice p) _ (plain_map (λ (v : ℕ). error.HandlerTwice v) _ (λ v. refl)) (
     plain_first (handler_without_requester p) _ (plain_map (λ (r : Row). error.HandlerWithoutRequester r.slot) _ (λ r. refl)) (record { plain = refl }))))))))

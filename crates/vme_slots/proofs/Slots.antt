@@ -16,7 +16,8 @@ use Rattle.vme_model.specs.Accepted.{first_of, when, namings}
 
 -- the slots that are this one, counted by what names them
 named : {X : Type 0} (slot_of : X → ℕ) (s : ℕ) (xs : List X) → length (filter (λ t. t == s) (map slot_of xs)) ≡ count_by (λ x. slot_of x == s) xs
-named {X} slot_of s xs = is_count_by (λ (ys : List X). length (filter (λ t. t == s) (map slot_of ys))) (λ x. slot_of x == s) refl (λ y ys. one_more (slot_of y == s) (slot_of y) (filter (λ t. t == s) (map slot_of ys))) xs
+named {X} slot_of s xs = is_count_by (λ (ys : List X). length (filter (λ t. t == s) (map slot_of ys))) (λ x. slot_of x == s) refl
+    (λ y ys. one_more (slot_of y == s) (slot_of y) (filter (λ t. t == s) (map slot_of ys))) xs
   where
     one_more : (b : Bool) (t : ℕ) (ts : List ℕ) → length (if b then t ∷ ts else ts) ≡ (if b then 1 + length ts else length ts)
     one_more true t ts = omega arith

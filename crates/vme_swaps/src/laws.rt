@@ -26,7 +26,8 @@ pub fn a_free_swap_changes_no_later_answer()
         IsAccepted b.plan → IsFree b.version b.plan b.history first second
         → StandAlike b.plan (kept (made (made b first) second) later).history
         (kept (made (made b second) first) later).history }
-    ensures legal { (version : Version) (p : Plan) (h : List Edge) (a b : Edge) (later : List Edge) →
+    ensures legal { (version : Version) (p : Plan) (h : List Edge) (a b : Edge)
+        (later : List Edge) →
         IsAccepted p → IsFree version p h a b
         → IsLegal version p (later ++ b ∷ a ∷ h) ↔ IsLegal version p (later ++ a ∷ b ∷ h) }
 {}

@@ -22,7 +22,8 @@ length_put a n k bytes mid is within size =
 
 -- among the bytes up to `len`, a row that was copied after them, a digit that was put over it or
 -- after it, and a tail that was copied after that: the first `len + many + 1 + size`
-pub line_of_parts : (len many size j k digit : ℕ) (bytes row mid tail rest : List ℕ) → j ≡ 24 → k ≡ 8 → many ≤ 24 → size ≤ 8 → 24 ≤ length row → length rest ≡ 8 → len + 33 ≤ length bytes → mid ≡ take 24 row → rest ≡ tail
+pub line_of_parts : (len many size j k digit : ℕ) (bytes row mid tail rest : List ℕ) → j ≡ 24 → k ≡ 8 → many ≤ 24 → size ≤ 8 → 24 ≤ length row → length rest ≡ 8 → len + 33 ≤ length bytes → mid
+    ≡ take 24 row → rest ≡ tail
     → take (len + many + 1 + size) (put_mid (len + many + 1) k (slice_set (put_mid len j bytes mid) (len + many) digit) rest) ≡ take len bytes ++ (take many row ++ (digit ∷ take size tail))
 line_of_parts len many size j k digit bytes row mid tail rest is_j is_k few short long whole room is is_tail =
     let size_mid : length mid ≡ 24 = ap length is ∙ length-take-le 24 row long in

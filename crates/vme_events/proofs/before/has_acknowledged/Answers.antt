@@ -13,7 +13,8 @@ use Rattle.vme_events.proofs.before.has_acknowledged.Goals as goal
 pub returns-in-Controller : goal.returns-in-Controller
 returns-in-Controller c = λ k same marks. let b = c.args.bus.now in
     sym (ap (λ h. served_since_request b.plan h c.args.driver Roak) (sym same)
-    ∙ nothing_answered b.plan k c.args.driver Roak (never_moved b.version b.plan k c.args.driver Dtack (legal_in b.version b.plan b.history k same c.laws.ensures.legal) (ap (λ d. has_wire d Dtack) c.in-Controller.is)))
+    ∙ nothing_answered b.plan k c.args.driver Roak (never_moved b.version b.plan k c.args.driver Dtack (legal_in b.version b.plan b.history k same c.laws.ensures.legal)
+    (ap (λ d. has_wire d Dtack) c.in-Controller.is)))
 
 pub returns-then-has_wire : goal.returns-then-has_wire
 returns-then-has_wire c = λ k same marks. let b = c.args.bus.now in
@@ -26,4 +27,5 @@ pub returns-else-has_wire : goal.returns-else-has_wire
 returns-else-has_wire c = λ k same marks. let b = c.args.bus.now in
     c.if-has_wire.false
     ∙ sym (ap (λ h. served_since_request b.plan h c.args.driver Roak) (sym same)
-    ∙ nothing_answered b.plan k c.args.driver Roak (never_moved b.version b.plan k c.args.driver Dtack (legal_in b.version b.plan b.history k same c.laws.ensures.legal) (ap (λ d. has_wire d Dtack) c.in-Slot.is ∙ sym c.has_wire.ensures ∙ c.if-has_wire.false)))
+    ∙ nothing_answered b.plan k c.args.driver Roak (never_moved b.version b.plan k c.args.driver Dtack (legal_in b.version b.plan b.history k same c.laws.ensures.legal)
+    (ap (λ d. has_wire d Dtack) c.in-Slot.is ∙ sym c.has_wire.ensures ∙ c.if-has_wire.false)))

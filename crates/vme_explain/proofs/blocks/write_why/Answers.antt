@@ -10,11 +10,13 @@ returns-in_err-put-clause-front g c =
 pub returns-clause-ok : goal.returns-clause-ok
 returns-clause-ok g c =
     let b = c.args.bus.now in let e = c.args.edge.now in
-    block_written c.args.n b c.args.marks.now e _ _ _ (c.as_slice.ensures.value ∙ c.verdict_line.ensures c.args.bus.now c.requires.answered) _ _ (c.as_slice-2.ensures ∙ c.outcome-witnesses.ensures (six_tested b e))
+    block_written c.args.n b c.args.marks.now e _ _ _ (c.as_slice.ensures.value ∙ c.verdict_line.ensures c.args.bus.now c.requires.answered) _ _
+    (c.as_slice-2.ensures ∙ c.outcome-witnesses.ensures (six_tested b e))
     c.in_ok-put.ensures.ok _ c.write_reasons.ensures.ok
 
 pub returns-clause-front : goal.returns-clause-front
 returns-clause-front g c =
     let b = c.args.bus.now in let e = c.args.edge.now in
-    block_fails c.args.n b c.args.marks.now e _ _ _ (c.as_slice.ensures.value ∙ c.verdict_line.ensures c.args.bus.now c.requires.answered) _ _ (c.as_slice-2.ensures ∙ c.outcome-witnesses.ensures (six_tested b e))
+    block_fails c.args.n b c.args.marks.now e _ _ _ (c.as_slice.ensures.value ∙ c.verdict_line.ensures c.args.bus.now c.requires.answered) _ _
+    (c.as_slice-2.ensures ∙ c.outcome-witnesses.ensures (six_tested b e))
     c.in_ok-put.ensures.ok _ c.write_reasons.ensures.front

@@ -12,5 +12,6 @@ returns-then-interrupts_on-clause-asks c =
     let b = c.args.bus.now in
     let d = c.args.driver in
     let level = c.args.level in
-    let asks : option_map_or (interrupts_on level) (board_of b.plan d) false ≡ true = ap (λ (r : Option Row). option_map_or (interrupts_on level) r false) (sym c.board_of.ensures.row ∙ c.in-Some.is) ∙ sym c.interrupts_on.ensures ∙ c.if-interrupts_on.true in
+    let asks : option_map_or (interrupts_on level) (board_of b.plan d) false ≡ true = ap (λ (r : Option Row). option_map_or (interrupts_on level) r false) (sym c.board_of.ensures.row ∙ c.in-Some.is)
+    ∙ sym c.interrupts_on.ensures ∙ c.if-interrupts_on.true in
     and_so (option_map_or (interrupts_on level) (board_of b.plan d) false) (drive b.history d Irq) c.is_low.result asks c.is_low.ensures.low

@@ -11,7 +11,8 @@ returns-then-is_low-clause-witnesses c = λ k at is.
     let b = c.args.bus.now in
     let level = c.args.level in
     let low : drive b.history Controller (Bg level) ≡ true = sym c.is_low.ensures.low ∙ c.if-is_low.true in
-    passed_more (λ n. seen b k Controller (Bg n)) (λ n. drive b.history Controller (Bg n)) level c.args.witnesses.now.items c.push.new.self.items c.seen.result low (c.seen.ensures k at is) c.push.ensures.items
+    passed_more (λ n. seen b k Controller (Bg n)) (λ n. drive b.history Controller (Bg n)) level c.args.witnesses.now.items c.push.new.self.items c.seen.result low
+    (c.seen.ensures k at is) c.push.ensures.items
 
 pub returns-else-is_low-clause-witnesses : goal.returns-else-is_low-clause-witnesses
 returns-else-is_low-clause-witnesses c = λ k at is.

@@ -11,4 +11,5 @@ pub word_of-requires : goal.word_of-requires
 word_of-requires c =
     let b = c.args.bus.now in
     let e = get_or c.as_slice-edge-items.result.now c.loop-edge.edge-index (record { driver = Controller; wire = Bg 0; fall = false; value = None }) in
-    open_has_word b e ((c.open_edges.ensures.all e).1 (subst (λ (es : List Edge). Contains es e) c.as_slice-edge-items.ensures.value (Contains-get_or c.as_slice-edge-items.result.now c.loop-edge.edge-index (record { driver = Controller; wire = Bg 0; fall = false; value = None }) c.loop-edge-test.true))).1
+    open_has_word b e ((c.open_edges.ensures.all e).1 (subst (λ (es : List Edge). Contains es e) c.as_slice-edge-items.ensures.value
+    (Contains-get_or c.as_slice-edge-items.result.now c.loop-edge.edge-index (record { driver = Controller; wire = Bg 0; fall = false; value = None }) c.loop-edge-test.true))).1

@@ -30,7 +30,8 @@ returns-in_err-write_lines-3-clause-front g c = on_err c.from_residual-in_err-wr
 
 pub returns-clause-ok : goal.returns-clause-ok
 returns-clause-ok g c =
-    at_ok c.write_lines-4.result (OfTrace c.args.bus.now c.args.marks.now (λ k. Appends (g.W.Write.contents c.write_lines-3.new.out) (g.W.Write.contents c.write_lines-4.new.out) (lines_of c.args.bus.now (open_line c.args.bus.now)))) _
+    at_ok c.write_lines-4.result (OfTrace c.args.bus.now c.args.marks.now (λ k. Appends (g.W.Write.contents c.write_lines-3.new.out) (g.W.Write.contents c.write_lines-4.new.out)
+    (lines_of c.args.bus.now (open_line c.args.bus.now)))) _
     (λ w k same marks. let b = c.args.bus.now in
     Appends-trans _ _ _ ((lines_of b (asks_text b k) ++ lines_of b (pending_text b k)) ++ lines_of b (low_text b)) (lines_of b (open_line b))
     (all_three _ _ _ _ (lines_of b (asks_text b k)) (lines_of b (pending_text b k)) (lines_of b (low_text b))
@@ -42,7 +43,8 @@ returns-clause-ok g c =
 
 pub returns-clause-front : goal.returns-clause-front
 returns-clause-front g c =
-    at_err c.write_lines-4.result (OfTrace c.args.bus.now c.args.marks.now (λ k. AppendsFront (g.W.Write.contents c.write_lines-3.new.out) (g.W.Write.contents c.write_lines-4.new.out) (lines_of c.args.bus.now (open_line c.args.bus.now)))) _
+    at_err c.write_lines-4.result (OfTrace c.args.bus.now c.args.marks.now (λ k. AppendsFront (g.W.Write.contents c.write_lines-3.new.out) (g.W.Write.contents c.write_lines-4.new.out)
+    (lines_of c.args.bus.now (open_line c.args.bus.now)))) _
     (λ w k same marks. let b = c.args.bus.now in
     front_behind _ _ _ ((lines_of b (asks_text b k) ++ lines_of b (pending_text b k)) ++ lines_of b (low_text b)) (lines_of b (open_line b))
     (all_three _ _ _ _ (lines_of b (asks_text b k)) (lines_of b (pending_text b k)) (lines_of b (low_text b))

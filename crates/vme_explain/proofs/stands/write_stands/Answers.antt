@@ -13,12 +13,14 @@ returns-in_err-write_bus-clause-front g c = on_err c.from_residual.result _ (λ 
 
 pub returns-clause-ok : goal.returns-clause-ok
 returns-clause-ok g c =
-    at_ok c.write_drivers.result (OfTrace c.args.bus.now c.args.marks.now (λ k. Appends (g.W.Write.contents c.write_bus.new.out) (g.W.Write.contents c.write_drivers.new.out) (drivers_text c.args.bus.now k))) _
+    at_ok c.write_drivers.result (OfTrace c.args.bus.now c.args.marks.now (λ k. Appends (g.W.Write.contents c.write_bus.new.out) (g.W.Write.contents c.write_drivers.new.out)
+    (drivers_text c.args.bus.now k))) _
     (λ w k same marks. whole_block _ _ _ c.args.n c.args.bus.now k (c.in_ok-write_bus.ensures.ok k same marks) (w k same marks))
     c.write_drivers.ensures.ok
 
 pub returns-clause-front : goal.returns-clause-front
 returns-clause-front g c =
-    at_err c.write_drivers.result (OfTrace c.args.bus.now c.args.marks.now (λ k. AppendsFront (g.W.Write.contents c.write_bus.new.out) (g.W.Write.contents c.write_drivers.new.out) (drivers_text c.args.bus.now k))) _
+    at_err c.write_drivers.result (OfTrace c.args.bus.now c.args.marks.now (λ k. AppendsFront (g.W.Write.contents c.write_bus.new.out) (g.W.Write.contents c.write_drivers.new.out)
+    (drivers_text c.args.bus.now k))) _
     (λ w k same marks. front_of_block _ _ _ c.args.n c.args.bus.now k (c.in_ok-write_bus.ensures.ok k same marks) (w k same marks))
     c.write_drivers.ensures.front

@@ -12,5 +12,6 @@ returns g c version p h is no_request no_cycle no_answer =
     let m = offered_on version p h (Slot s) master_wires in
     let i = offered_on version p h (Slot s) interrupter_wires in
     c.offer_interrupter.ensures.offered version p h is no_answer
-    ∙ ap (λ (t : List Edge). t ++ i) (c.offer_master.ensures.offered version p h is no_cycle ∙ ap (λ (t : List Edge). t ++ m) (c.offer_requester.ensures.offered version p h is no_request ∙ ap (λ (t : List Edge). t ++ r) c.requires.empty))
+    ∙ ap (λ (t : List Edge). t ++ i) (c.offer_master.ensures.offered version p h is no_cycle ∙ ap (λ (t : List Edge). t ++ m) (c.offer_requester.ensures.offered version p h is no_request
+    ∙ ap (λ (t : List Edge). t ++ r) c.requires.empty))
     ∙ parts_joined version p h s

@@ -25,11 +25,14 @@ pub returns-in_err-feed : goal.returns-in_err-feed
 returns-in_err-feed g c =
     let e = err_from_is_err_and c.from_residual.result c.from_residual.ensures.1 in
     rw (e.1, e.2)
-    (faulty (g.R.Read.remaining c.args.input.now) (g.R.Read.remaining c.reads.input) (g.R.Read.remaining c.read_piece.new.input) c.reads.reader (take c.in-Ok.count c.read_piece.new.buffer) c.in_err-feed.field-0.0 c.reads.invariant.read c.in-Ok.ensures.ok.1 c.in_err-feed.ensures)
+    (faulty (g.R.Read.remaining c.args.input.now) (g.R.Read.remaining c.reads.input) (g.R.Read.remaining c.read_piece.new.input) c.reads.reader (take c.in-Ok.count c.read_piece.new.buffer)
+    c.in_err-feed.field-0.0 c.reads.invariant.read c.in-Ok.ensures.ok.1 c.in_err-feed.ensures)
 
 pub reads-preserved : goal.reads-preserved
 reads-preserved g c =
-    fed_more c.reads.done (g.R.Read.remaining c.args.input.now) (g.R.Read.remaining c.reads.input) (g.R.Read.remaining c.read_piece.new.input) c.reads.reader c.feed.new.self (take c.in-Ok.count c.read_piece.new.buffer) c.reads.invariant c.in-Ok.ensures.ok.1 (rw (length-take c.in-Ok.count c.read_piece.new.buffer) (omega (arith, c.in-Ok.ensures.ok.0, c.if-count-eq0.false, c.read_piece.array_long))) c.in_ok-feed.ensures
+    fed_more c.reads.done (g.R.Read.remaining c.args.input.now) (g.R.Read.remaining c.reads.input) (g.R.Read.remaining c.read_piece.new.input) c.reads.reader c.feed.new.self
+    (take c.in-Ok.count c.read_piece.new.buffer) c.reads.invariant c.in-Ok.ensures.ok.1
+    (rw (length-take c.in-Ok.count c.read_piece.new.buffer) (omega (arith, c.in-Ok.ensures.ok.0, c.if-count-eq0.false, c.read_piece.array_long))) c.in_ok-feed.ensures
 
 pub returns : goal.returns
 returns g c =

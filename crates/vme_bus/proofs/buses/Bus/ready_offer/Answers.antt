@@ -8,4 +8,5 @@ pub returns-then-is_full : goal.returns-then-is_full
 returns-then-is_full c = sym (ap (λ (l : List Edge). slice_get l (c.args.round % length l)) (offered_full c.args.self.now c.args.driver (sym c.is_full.ensures ∙ c.if-is_full.true)))
 
 pub returns : goal.returns
-returns c = c.ready_offer_but_full.ensures ∙ sym (ap (λ (l : List Edge). slice_get l (c.args.round % length l)) (offered_with_room c.args.self.now c.args.driver (sym c.is_full.ensures ∙ c.if-is_full.false)))
+returns c = c.ready_offer_but_full.ensures ∙ sym (ap (λ (l : List Edge). slice_get l (c.args.round % length l))
+    (offered_with_room c.args.self.now c.args.driver (sym c.is_full.ensures ∙ c.if-is_full.false)))

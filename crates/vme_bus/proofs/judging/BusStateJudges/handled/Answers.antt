@@ -20,4 +20,5 @@ returns-in-Some c version p h is =
 pub returns-in-None : goal.returns-in-None
 returns-in-None c version p h is =
     let s = c.args.slot in
-    sym (ap (λ (o : Option Row). option_map (λ r. r.handler) o) (unseated p (board p s) (sym (is.layout.seats s) ∙ sym c.record.ensures ∙ ap (option_map seat_of_record) (ap option_copied c.in-None.is))))
+    sym (ap (λ (o : Option Row). option_map (λ r. r.handler) o) (unseated p (board p s) (sym (is.layout.seats s) ∙ sym c.record.ensures ∙ ap (option_map seat_of_record)
+    (ap option_copied c.in-None.is))))

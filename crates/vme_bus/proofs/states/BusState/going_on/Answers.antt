@@ -35,4 +35,5 @@ returns g c version p h r is found some formed =
     subst (λ k. g.A.Outcome.reports c.addr_goes_on.result k)
     (ap (λ x. addr_goes_on x c.address_strobe.result bursts shows) (c.has.ensures ∙ is.bbsy s)
     ∙ ap (λ x. addr_goes_on (drive h (Slot s) Bbsy) x bursts shows) (c.address_strobe.ensures version p h is))
-    (c.addr_goes_on.ensures c.has.result c.address_strobe.result bursts shows c.addr_is_free-free.ensures (c.bursting-bursting.ensures version p h r is found some) (c.showing-showing.ensures version p h r is found formed))
+    (c.addr_goes_on.ensures c.has.result c.address_strobe.result bursts shows c.addr_is_free-free.ensures (c.bursting-bursting.ensures version p h r is found some)
+    (c.showing-showing.ensures version p h r is found formed))

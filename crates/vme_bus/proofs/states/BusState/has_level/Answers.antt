@@ -30,11 +30,13 @@ on n (Some r) = refl
 pub returns : goal.returns
 returns c version p h is = by_level (nat_lt c.args.level 8) refl
   where
-    by_board : 8 ≤ c.args.level → (o : Option Row) → board p c.args.slot ≡ o → false ≡ option_map_or (λ (i : InterrupterRow). i.level == c.args.level) (option_and_then (λ (r : Row). r.interrupter) o) false
+    by_board : 8 ≤ c.args.level → (o : Option Row) → board p c.args.slot ≡ o → false ≡ option_map_or (λ (i : InterrupterRow). i.level == c.args.level)
+        (option_and_then (λ (r : Row). r.interrupter) o) false
     by_board f None found = refl
     by_board f (Some r) found = beyond c.args.level r.interrupter (stands p c.args.slot r is.accepted found).interrupt f
 
-    by_level : (b : Bool) → nat_lt c.args.level 8 ≡ b → (b && c.has.result) ≡ option_map_or (λ (i : InterrupterRow). i.level == c.args.level) (option_and_then (λ (r : Row). r.interrupter) (board p c.args.slot)) false
+    by_level : (b : Bool) → nat_lt c.args.level 8 ≡ b → (b && c.has.result) ≡ option_map_or (λ (i : InterrupterRow). i.level == c.args.level)
+        (option_and_then (λ (r : Row). r.interrupter) (board p c.args.slot)) false
     by_level true e =
         let l : c.args.level < 8 = near_is c.args.level e in
         let least : min c.args.level 7 ≡ c.args.level = grind arith in

@@ -17,6 +17,7 @@ returns-in-Slot c version p h is =
     let s = c.in-Slot.slot in
     by_place (nat_lt s 22) refl c.is_slot_low.result c.is_slot_low.ensures ∙ sym (ap (λ (d : Driver). drive h d c.args.wire) c.in-Slot.is)
   where
-    by_place : (b : Bool) → nat_lt c.in-Slot.slot 22 ≡ b → (low : Bool) → (c.in-Slot.slot < 22 → OfHistory c.args.self.now (λ version p h. low ≡ drive h (Slot c.in-Slot.slot) c.args.wire)) → (b && low) ≡ drive h (Slot c.in-Slot.slot) c.args.wire
+    by_place : (b : Bool) → nat_lt c.in-Slot.slot 22 ≡ b → (low : Bool) → (c.in-Slot.slot < 22 → OfHistory c.args.self.now (λ version p h. low ≡ drive h (Slot c.in-Slot.slot) c.args.wire))
+        → (b && low) ≡ drive h (Slot c.in-Slot.slot) c.args.wire
     by_place true on low reads = let near : c.in-Slot.slot < 22 = grind (arith, nat_tests) in reads near version p h is
     by_place false off low reads = let far : 22 ≤ c.in-Slot.slot = grind (arith, nat_tests) in beyond_slots version p h c.in-Slot.slot c.args.wire is.accepted is.legal far

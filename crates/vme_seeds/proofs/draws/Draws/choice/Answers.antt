@@ -12,7 +12,8 @@ pub returns-in_err-kind : goal.returns-in_err-kind
 returns-in_err-kind c =
     let d : Draw = draw_by c.args.self.now (has c.args.boards) c.args.edges.now in
     let xs = c.new-chances.result.by_kind in
-    let are = chances_are d xs c.args.self.now.weights.by_kind c.args.self.now.made.counts c.of-ready.result.counts c.new-chances.ensures.long c.new-chances.ensures.each (λ k. refl) (λ k. refl) c.of-ready.ensures in
+    let are = chances_are d xs c.args.self.now.weights.by_kind c.args.self.now.made.counts c.of-ready.result.counts c.new-chances.ensures.long c.new-chances.ensures.each (λ k. refl)
+    (λ k. refl) c.of-ready.ensures in
     let number : c.scaled.result ≡ scaled c.args.first (sum xs) = c.scaled.ensures.number ∙ ap (scaled c.args.first) c.sum.ensures in
     let kind = ap (λ (x : ℕ). slice_get kinds (falls_at xs x)) (sym number) ∙ sym c.kind_at.ensures ∙ c.in_err-kind.was in
     c.from_residual.ensures ∙ none_chosen d c.args.first c.args.second xs are kind
@@ -22,7 +23,8 @@ returns c =
     let k = c.in_ok-kind.kind in
     let d : Draw = draw_by c.args.self.now (has c.args.boards) c.args.edges.now in
     let xs = c.new-chances.result.by_kind in
-    let are = chances_are d xs c.args.self.now.weights.by_kind c.args.self.now.made.counts c.of-ready.result.counts c.new-chances.ensures.long c.new-chances.ensures.each (λ j. refl) (λ j. refl) c.of-ready.ensures in
+    let are = chances_are d xs c.args.self.now.weights.by_kind c.args.self.now.made.counts c.of-ready.result.counts c.new-chances.ensures.long c.new-chances.ensures.each (λ j. refl)
+    (λ j. refl) c.of-ready.ensures in
     let number : c.scaled.result ≡ scaled c.args.first (sum xs) = c.scaled.ensures.number ∙ ap (scaled c.args.first) c.sum.ensures in
     let kind = ap (λ (x : ℕ). slice_get kinds (falls_at xs x)) (sym number) ∙ sym c.kind_at.ensures ∙ c.in_ok-kind.was in
     let at = c.scaled-place.ensures.number ∙ ap (scaled c.args.second) (c.count.ensures ∙ c.of-ready.ensures k) in

@@ -13,7 +13,8 @@ returns-in-Some c =
     let fault = λ (k : ℕ). option_map (λ chain. ChainBroken k chain) (find (is_broken p k) chains) in
     let slots : c.self.inside.slots ≡ p.slots = ap (λ q. q.slots) c.self.view_is in
     let here : find (is_broken p s) chains ≡ Some c.in-Some.chain = cc in
-    sym (first_up_to_first fault p.slots s (ChainBroken s c.in-Some.chain) (omega arith) (omega arith) (ap (option_map (λ chain. ChainBroken s chain)) here) (λ k low less. ap (option_map (λ chain. ChainBroken k chain)) (c.loop-slot.invariant k low less)))
+    sym (first_up_to_first fault p.slots s (ChainBroken s c.in-Some.chain) (omega arith) (omega arith) (ap (option_map (λ chain. ChainBroken s chain)) here)
+    (λ k low less. ap (option_map (λ chain. ChainBroken k chain)) (c.loop-slot.invariant k low less)))
 
 pub loop-slot-preserved : goal.loop-slot-preserved
 loop-slot-preserved c =

@@ -15,7 +15,8 @@ returns-in-Some c =
     let rows = map (row_range p.slots) p.rows.now in
     let jumpers = map (jumper_range p.slots) p.jumpers.now in
     let found : first_of rows ≡ Some c.in-Some.field = sym c.rows_range.ensures ∙ c.in-Some.is in
-    subst (λ (q : Plan). Some (OutOfRange c.in-Some.field) ≡ out_of_range q) c.self.view_is (sym (ap (option_map (λ f. OutOfRange f)) (first_past p.slots Slots rows jumpers c.if-self-eq0.false ∙ ap (λ o. option_or o (first_of jumpers)) found)))
+    subst (λ (q : Plan). Some (OutOfRange c.in-Some.field) ≡ out_of_range q) c.self.view_is
+    (sym (ap (option_map (λ f. OutOfRange f)) (first_past p.slots Slots rows jumpers c.if-self-eq0.false ∙ ap (λ o. option_or o (first_of jumpers)) found)))
 
 pub returns : goal.returns
 returns c =
@@ -24,4 +25,5 @@ returns c =
     let jumpers = map (jumper_range p.slots) p.jumpers.now in
     let none : first_of rows ≡ None = sym c.rows_range.ensures ∙ c.in_default.is in
     let mapped : c.map.result ≡ option_map (λ f. OutOfRange f) c.jumpers_range.result = search rules in
-    subst (λ (q : Plan). c.map.result ≡ out_of_range q) c.self.view_is (mapped ∙ ap (option_map (λ f. OutOfRange f)) (c.jumpers_range.ensures ∙ sym (first_past p.slots Slots rows jumpers c.if-self-eq0.false ∙ ap (λ o. option_or o (first_of jumpers)) none)))
+    subst (λ (q : Plan). c.map.result ≡ out_of_range q) c.self.view_is (mapped ∙ ap (option_map (λ f. OutOfRange f))
+    (c.jumpers_range.ensures ∙ sym (first_past p.slots Slots rows jumpers c.if-self-eq0.false ∙ ap (λ o. option_or o (first_of jumpers)) none)))
