@@ -28,3 +28,5 @@ pub mod FirstRefusals
 pub mod LegalTrace
 -- a trace that is read up to the edge that is asked for: src/seeking.rt
 pub mod SoughtEdges
+-- lines at each edge of a trace, and last lines at its end: src/reporting.rt
+pub mod ReportedEdges

@@ -33,3 +33,6 @@ pub mod Sides
 pub mod Texts
 -- words: a trace that is read up to the edge that is asked for
 pub mod Sought
+-- believe, for `at_each`: what is left of a trace by a command that writes lines at its edges; from
+-- `HasWritten` on it is words
+pub mod Reporting

@@ -3,7 +3,6 @@ use Rattle.std.specs.Prelude.{◌≡◌, ◌≢◌, ◌<◌, ◌≤◌, ◌⊎�
 use Rattle.std.specs.Io.KnownBytes.{Appends, Consumes, IsAtEnd}
 use Rattle.vme_model.specs.declared.signals.Version.{Version}
 use Rattle.vme_model.specs.declared.signals.Edge.{Edge}
-use Rattle.vme_model.specs.Plan.{Plan}
 use Rattle.vme_model.specs.Verdict.{State, kept}
 use Rattle.vme_model.specs.Text.{Reading, read_of}
 use Rattle.vme_model.specs.Report.{closing_text}
@@ -17,7 +16,7 @@ use Rattle.vme_reading.specs.declared.LineForm.{LineForm}
 use Rattle.vme_reading.specs.declared.Status.{Status}
 use Rattle.vme_reading.specs.declared.EngineFault.{EngineFault}
 use Rattle.vme_reading.specs.declared.EngineFault.TheVariants as fault
-use Rattle.vme_reading.specs.Outcomes.{Answer, bench, form_lines, scenario_limit, status_with, CanGoOn}
+use Rattle.vme_reading.specs.Outcomes.{Answer, form_lines, scenario_limit, status_with, CanGoOn}
 
 -- why there is no plan
 abbrev pub IsNoPlan : List ℕ → EngineFault → Type 0
