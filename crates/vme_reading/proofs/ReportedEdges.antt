@@ -39,16 +39,6 @@ stops_among Lines Fails p v before es i d h old new f stops = elim stops [
   )
 ]
 
--- ---- before the first edge
-
-pub reports_unbegun : (Lines Text : Writes) (Fails : Fault → Type 0) (p : Plan) (trace : List ℕ)
-    (s : Streams) (f : Fault) → WroteNothing s
-    → StopsWaiting IsUnread trace (streams s.from s.to None None) f
-    → ReportsEach Lines Text Fails p trace s (Err f)
-reports_unbegun Lines Text Fails p trace s f nothing h =
-    inl (stops_unread (λ version es. (bytes : List ℕ) × AreLinesAt Lines p version es bytes × stream.Wrote s bytes)
-    ([], refl, Appends-kept s.old s.old s.new [] (Appends-nil s.old) nothing) trace s f h)
-
 -- ---- by the last piece
 
 module _ (Lines Text : Writes) (Fails : Fault → Type 0) (p : Plan) (v : Version)

@@ -1,6 +1,7 @@
 -- What is left of a trace without a header line. These are lemmas, which the laws of `Judge` cite:
 -- a law cites what stands in `specs`. They are proved, and no result rests on what they mean.
 use Rattle.std.proofs.Common.{◌≡◌, inl, ℕ, List, [], Option, Some, None, Err, refl, sym, subst}
+use Rattle.std.proofs.KnownBytes.{Appends-kept, Appends-nil}
 use Rattle.vme_model.specs.declared.signals.Version.{Version}
 use Rattle.vme_model.specs.declared.signals.Edge.{Edge}
 use Rattle.vme_model.specs.Plan.{Plan}
@@ -8,8 +9,9 @@ use Rattle.vme_model.specs.Text.{read_of}
 use Rattle.vme_trace.specs.declared.Fault.{Fault}
 use Rattle.vme_trace.specs.declared.Fault.TheVariants.{Header, Line, TooLong, CutOff, Read, Memory, Failed, Write}
 use Rattle.vme_reading.specs.Begun.{IsUnread}
+use Rattle.vme_reading.specs.Reporting.{AreLinesAt, ReportsEach, Writes}
 use Rattle.vme_reading.specs.Seeking.{IsUnasked, SeeksEdge, Writing}
-use Rattle.vme_reading.specs.Streams.{Streams, streams, WroteNothing}
+use Rattle.vme_reading.specs.Streams.{Streams, streams, Wrote, WroteNothing}
 use Rattle.vme_reading.specs.Waiting.{StopsWaiting}
 
 -- An engine that waits before the first edge still waits where no header line was read.
@@ -44,3 +46,11 @@ pub seeks_unread : {A : Type 0} (Writes : Writing A) (Fails : Fault → Type 0) 
     → SeeksEdge Writes Fails asked p trace s (Err f)
 seeks_unread Writes Fails asked p trace s f kept h =
     inl (stops_unread (IsUnasked asked p) (unasked_unread asked p) trace s f h, kept)
+
+pub reports_unbegun : (Lines Text : Writes) (Fails : Fault → Type 0) (p : Plan) (trace : List ℕ)
+    (s : Streams) (f : Fault) → WroteNothing s
+    → StopsWaiting IsUnread trace (streams s.from s.to None None) f
+    → ReportsEach Lines Text Fails p trace s (Err f)
+reports_unbegun Lines Text Fails p trace s f nothing h =
+    inl (stops_unread (λ version es. (bytes : List ℕ) × AreLinesAt Lines p version es bytes × Wrote s bytes)
+    ([], refl, Appends-kept s.old s.old s.new [] (Appends-nil s.old) nothing) trace s f h)

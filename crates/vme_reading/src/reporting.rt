@@ -10,6 +10,7 @@ ghost use Rattle.vme_reading.specs.Streams.{streams, ReadNothing, WroteNothing};
 ghost use Rattle.vme_reading.specs.Outcomes.{bench, refused_count, status_with};
 ghost use Rattle.vme_reading.specs.Readings.{ReadsInput, ReadsLent};
 ghost use Rattle.vme_reading.specs.Reporting.{HasWritten, HasWrittenFront, ReportsEach, StopsAmong, StopsAt};
+ghost use Rattle.vme_reading.specs.Unread.{reports_unbegun};
 
 use crate::readings::{Judge, read};
 use crate::{EngineFault, Status};
@@ -131,13 +132,14 @@ impl<S: AtEach> Judge for Reporting<S> {
     ghost leaves = { λ _ p trace s answer.
         ReportsEach S.lines S.text S.fails p trace s answer };
 
+    ghost unbegun = { λ task can p trace s f kept h.
+        reports_unbegun S.lines S.text S.fails p trace s f kept h };
+
     fn begin(task: &S::Task, bus: Bus) -> Reporting<S> {
         Reporting {
             at: S::begin(task, bus),
         }
     }
-
-    fn unbegun(_task: &S::Task) {}
 
     /// Writes the lines of the edges, and at the end of the trace the last lines.
     fn take<W: Write>(

@@ -15,8 +15,8 @@ use Rattle.vme_trace.specs.Writing.{AppendsFront}
 use Rattle.vme_reading.specs.declared.EngineFault.TheVariants as fault
 use Rattle.vme_reading.specs.Outcomes.{bench}
 use Rattle.vme_reading.proofs.LegalTrace.{all_well_formed}
-use Rattle.vme_stories.specs.Stories.{IsFound, accepted}
-use Rattle.vme_stories.proofs.Lists.{kept_append, kept_plan, kept_version}
+use Rattle.vme_shrink_search.specs.Stories.{IsFound, accepted}
+use Rattle.vme_shrink_search.proofs.Lists.{kept_append, kept_plan, kept_version}
 use Rattle.vme_shrink.specs.Shrinking.{IsFront, IsStoryText, WritesStory}
 
 -- ---- the story of a front

@@ -8,7 +8,7 @@ use Rattle.vme_model.specs.Verdict.{State, kept}
 use Rattle.vme_model.specs.Text.{text}
 use Rattle.vme_trace.specs.declared.Fault.TheVariants.{Memory, Write}
 use Rattle.vme_trace.specs.Writing.{AppendsFront}
-use Rattle.vme_stories.specs.Stories.{IsFound, accepted}
+use Rattle.vme_shrink_search.specs.Stories.{IsFound, accepted}
 use Rattle.vme_reading.specs.declared.Status.{Status}
 use Rattle.vme_reading.specs.declared.EngineFault.TheVariants as fault
 use Rattle.vme_reading.specs.Streams.{Streams}

@@ -11,7 +11,7 @@ use std::io::Write;
 use vme_model::Edge;
 use vme_reading::{Status, write_trace};
 use vme_store::Code;
-use vme_stories::{Front, StoryProgress, story};
+use vme_shrink_search::{Front, StoryProgress, story};
 use vme_trace::Fault;
 
 /// The status if the edge that is asked for is accepted, and if it is not.

@@ -5,4 +5,4 @@ mod fronts;
 mod shrinks;
 
 pub use shrinks::shrink;
-pub use vme_stories::StoryProgress;
+pub use vme_shrink_search::StoryProgress;

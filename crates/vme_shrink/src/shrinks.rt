@@ -13,7 +13,7 @@ use vme_bus::Bus;
 use vme_following::print_at_edge;
 use vme_model::Edge;
 use vme_reading::{Asked, AtEdge, EngineFault, Status};
-use vme_stories::{Front, StoryProgress};
+use vme_shrink_search::{Front, StoryProgress};
 use vme_trace::Fault;
 
 /// What a search for a story needs: the memory for it, and who hears how far it came.
@@ -77,7 +77,7 @@ impl<P: StoryProgress + Copy + Drop> AtEdge for Shrinking<P> {
 /// number `edge`, counted from 1, or without one with the first that is refused.
 ///
 /// The edges before it are a story of it and of what was kept of the edges before it
-/// (`vme_stories::story`), so it is answered as before. The status is `SomeRefused` if it is
+/// (`vme_shrink_search::story`), so it is answered as before. The status is `SomeRefused` if it is
 /// refused, and otherwise `Done`. Without a number, if no edge is refused, it writes `legal N`. No
 /// edge behind that one is judged. It makes at most 16,777,216 reads. `progress` hears of each
 /// stretch of edges before it is left out to see whether the answer stays the same.

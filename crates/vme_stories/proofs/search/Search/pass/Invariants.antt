@@ -1,8 +1,0 @@
-use Rattle.vme_stories.proofs.Searches.{IsPassing}
-use Rattle.vme_stories.proofs.search.Search.pass.Given as goal
-
-abbrev pub invariant-ends : goal.invariant-ends
-invariant-ends g l = IsPassing l.fn.self l.self l.fn.size l.end l.has_left
-
-abbrev pub decreases-ends : goal.decreases-ends
-decreases-ends g l = l.end
