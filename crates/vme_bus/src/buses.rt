@@ -247,7 +247,7 @@ impl Bus {
         ensures max { self.new.max ≡ self.old.max }
     {
         self.laws();
-        kept.number = self.state.step_formed::<false>(edge, &mut kept.delivery);
+        kept.number = self.state.step_formed(edge, &mut kept.delivery);
         if is_accepted(kept.number) {
             self.made += 1;
             self.past.note(edge);

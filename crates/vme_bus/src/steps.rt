@@ -43,8 +43,25 @@ impl BusState {
             return Err(Refused::NoSuchDriver);
         }
         let mut delivery = NO_DELIVERY;
-        let number = self.step_formed::<true>(edge, &mut delivery);
+        let number = self.step_one(edge, &mut delivery);
         answer_in(number, delivery)
+    }
+
+    /// Takes a well-formed edge that stands alone if the rules allow it. Gives the number of the
+    /// answer, and what is delivered.
+    ///
+    /// All steps of single edges share this machine code, which is large. `step_formed` is put in
+    /// place only here and in the one loop over edges.
+    #[inline(never)]
+    fn step_one(&mut self, edge: Edge, delivery: &mut Delivery) -> u8
+        requires formed { is_well_formed edge ≡ true }
+        ensures answer { OfHistory self.old (λ version p h.
+            answer_in result delivery.new ≡ answer_but_full version p h edge) }
+        ensures state { OfHistory self.old (λ version p h.
+            IsStateOf version p (kept_but_full version p h edge) self.new) }
+        ensures refused { is_ok (answer_in result delivery.new) ≡ false → self.new ≡ self.old }
+    {
+        self.step_formed(edge, delivery)
     }
 
     /// Takes a well-formed edge if the rules allow it, in an arm for each wire and direction.
@@ -54,15 +71,8 @@ impl BusState {
     /// where a jump by a table goes. No more than three in a row single out one wire, as the
     /// compiler makes such a jump of four. None asks who drives the edge: of a well-formed one the
     /// wire says whether the controller does.
-    ///
-    /// `ALONE` changes nothing of that. The many steps of single edges share one piece of machine
-    /// code. A loop over edges has its own, as the compiler puts what is called once in its place.
     #[inline(always)]
-    pub(crate) fn step_formed<const ALONE: bool>(
-        &mut self,
-        edge: Edge,
-        delivery: &mut Delivery,
-    ) -> u8
+    pub(crate) fn step_formed(&mut self, edge: Edge, delivery: &mut Delivery) -> u8
         requires formed { is_well_formed edge ≡ true }
         ensures answer { OfHistory self.old (λ version p h.
             answer_in result delivery.new ≡ answer_but_full version p h edge) }

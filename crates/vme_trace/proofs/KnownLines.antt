@@ -1,5 +1,5 @@
 -- Lines at the head of some bytes, one after another.
-use Rattle.std.proofs.Common.{◌≡◌, ◌<◌, ◌+◌, ℕ, List, [], ◌∷◌, ◌++◌, length, get_or, take, drop, IsTrue, arith, sym, ◌∙◌, ap, append_assoc, append-nil, add-one, subst}
+use Rattle.std.proofs.Common.{◌≡◌, ◌<◌, ◌≤◌, ◌+◌, ℕ, List, [], ◌∷◌, ◌++◌, length, get_or, take, drop, IsTrue, arith, sym, ◌∙◌, ap, append_assoc, append-nil, add-one, subst}
 use Rattle.std.proofs.Math.Seq.{take-suc, take-append_seam, drop-append_seam}
 use Rattle.std.proofs.lemmas.Grind.{flat_map-append}
 use Rattle.std.proofs.lemmas.List.{take-append-drop, drop-drop, get_or-drop, length-append, length-drop}
@@ -38,6 +38,31 @@ join_lines bytes rest rest' old mid new h k = record {
       ∙ ap (λ l. l ++ rest') (sym (flat_map-append (λ d. spelling d ++ 10 ∷ []) h.es k.es));
   appended = k.appended ∙ ap (λ l. l ++ k.es) h.appended ∙ append_assoc old h.es k.es;
 }
+
+few_edges : (es : List Edge) → length es ≤ length (edge_lines es)
+few_edges [] = omega arith
+few_edges (e ∷ es) =
+    let others = few_edges es in
+    let all = length-append (spelling e ++ 10 ∷ []) (edge_lines es) in
+    let own = length-append (spelling e) (10 ∷ []) in
+    omega (arith, others, all, own)
+
+-- no more edges than bytes
+pub few_lines : (bytes rest : List ℕ) (old new : List Edge) → HasLines bytes rest old new → length new + length rest ≤ length old + length bytes
+few_lines bytes rest old new h =
+    let few = few_edges h.es in
+    let all = ap length h.is ∙ length-append (edge_lines h.es) rest in
+    let more = ap length h.appended ∙ length-append old h.es in
+    omega (arith, few, all, more)
+
+-- a line has a byte at least
+pub some_line : (text : List ℕ) (start end : ℕ) (e : Edge) → IsFrontLine e (drop start text) (drop end text) → end ≤ length text → start < end
+some_line text start end e front within =
+    let all = ap length front.is ∙ length-append (spelling e ++ 10 ∷ []) (drop end text) in
+    let own = length-append (spelling e) (10 ∷ []) in
+    let from = length-drop start text in
+    let to = length-drop end text in
+    omega (arith, all, own, from, to)
 
 -- ---- a line that is remembered
 

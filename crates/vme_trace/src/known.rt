@@ -1,5 +1,5 @@
 //! Lines that were read before, looked up by their bytes.
-ghost use Rattle.std.specs.Prelude.{◌≡◌, ◌≢◌, ◌+◌, ◌<◌, ◌≤◌, ℕ, List, length, slice_index, take, drop, IfOk, IfErr, IfSome};
+ghost use Rattle.std.specs.Prelude.{◌≡◌, ◌≢◌, ◌+◌, ◌-◌, ◌<◌, ◌≤◌, ℕ, List, length, slice_index, take, drop, vec_len, vec_capacity, IfOk, IfErr, IfSome};
 ghost use Rattle.vme_model.specs.declared.signals.Edge.{Edge};
 ghost use Rattle.vme_trace.specs.Fronts.{IsFrontLine};
 ghost use Rattle.vme_trace.specs.Known.{number_of, key_number, IsKeyOf};
@@ -91,8 +91,7 @@ impl Known {
     /// Reads the lines of a piece whose line feeds stand in the block at a place, as long as each
     /// spells an edge. The first line begins at `from`. It returns where the next one begins.
     ///
-    /// # Errors
-    /// X6 if memory runs out.
+    /// The list has room for as many edges as bytes stand there.
     #[inline(always)]
     fn take_block<A: Allocator>(
         &mut self,
@@ -100,15 +99,13 @@ impl Known {
         at: usize,
         from: usize,
         edges: &mut Vec<Edge, A>,
-    ) -> Result<usize, Fault>
+    ) -> usize
         requires room { at + 80 ≤ length piece.now }
         requires begun { from ≤ at + 64 }
-        ensures next { IfOk result (λ start. start ≤ at + 64) }
-        ensures ok { IfOk result (λ start. HasLines (drop from piece.now) (drop start piece.now)
-            edges.old.items edges.new.items) }
-        ensures fault { IfErr result (λ fault. fault ≡ Fault.Memory) }
-        ensures lost { IfErr result (λ fault. (rest : List ℕ)
-            × HasLines (drop from piece.now) rest edges.old.items edges.new.items) }
+        requires spare { vec_len edges.old + (at + 64 - from) ≤ vec_capacity edges.old }
+        ensures next { result ≤ at + 64 }
+        ensures lines { HasLines (drop from piece.now) (drop result piece.now)
+            edges.old.items edges.new.items }
     {
         let mut feeds = feeds_at(piece, at);
         let mut start = from;
@@ -117,17 +114,18 @@ impl Known {
             let Some(edge) = self.edge_between(piece, start, end) else {
                 break;
             };
-            if edges.push(edge).is_err() {
-                return Err(Fault::Memory);
-            }
+            edges.push_reserved(edge);
             feeds = without_lowest(feeds);
             start = end + 1;
         }
-        Ok(start)
+        start
     }
 
     /// Reads the lines at the head of a piece, except for its last bytes, as long as each spells an
     /// edge. It returns the rest.
+    ///
+    /// It asks for room once a block. It stops behind a block in which no line ends, since no edge
+    /// has so long a line.
     ///
     /// # Errors
     /// X6 if memory runs out.
@@ -145,8 +143,11 @@ impl Known {
     {
         let mut start = 0;
         let mut at = 0;
-        'steps: while piece.len() - at >= BLOCK + 16 {
-            start = self.take_block(piece, at, start, edges)?;
+        'steps: while piece.len() - at >= BLOCK + 16 && at <= start + BLOCK {
+            if edges.reserve(2 * BLOCK).is_err() {
+                return Err(Fault::Memory);
+            }
+            start = self.take_block(piece, at, start, edges);
             at += BLOCK;
         }
         Ok(&piece[start..])
