@@ -37,7 +37,11 @@ loop-event-preserved c =
       room =
           let before = c.loop-event.invariant.room in
           elim c.if-times-index-eq0.branch [
-            | then-times-index-eq0 w ↦ let first = w.push.ensures.len in let second = rw w.as_bytes.ensures.value at w.push-then-times-index-eq0.ensures.len in let short = w.name.ensures.short in rw w.words-is (omega (arith, before, first, second, short))
+            | then-times-index-eq0 w ↦
+              let first = w.push.ensures.len in
+              let second = rw w.as_bytes.ensures.value at w.push-then-times-index-eq0.ensures.len in
+              let short = w.name.ensures.short in
+              rw w.words-is (omega (arith, before, first, second, short))
             | else-times-index-eq0 w ↦ rw w.words-is (omega (arith, before))
           ];
     }
