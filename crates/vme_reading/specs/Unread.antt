@@ -40,11 +40,11 @@ unasked_unread : (asked : Option ℕ) (p : Plan) → IsUnasked asked p None []
 unasked_unread (Some n) p = λ some. some
 unasked_unread None p = refl
 
-pub seeks_unread : {A : Type 0} (Writes : Writing A) (Fails : Fault → Type 0) (asked : Option ℕ)
+pub seeks_unread : {A : Type 0} (At : Writing A) (Fails : Fault → Type 0) (asked : Option ℕ)
     (p : Plan) (trace : List ℕ) (s : Streams) (f : Fault) → WroteNothing s
     → StopsWaiting IsUnread trace (streams s.from s.to None None) f
-    → SeeksEdge Writes Fails asked p trace s (Err f)
-seeks_unread Writes Fails asked p trace s f kept h =
+    → SeeksEdge At Fails asked p trace s (Err f)
+seeks_unread At Fails asked p trace s f kept h =
     inl (stops_unread (IsUnasked asked p) (unasked_unread asked p) trace s f h, kept)
 
 pub reports_unbegun : (Lines Text : Writes) (Fails : Fault → Type 0) (p : Plan) (trace : List ℕ)
