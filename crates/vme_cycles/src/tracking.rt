@@ -129,7 +129,8 @@ impl Tracking {
         requires room { self.old.following.judged + 1 < 2 ^ 64 }
         requires well_formed { IsTrue (is_well_formed edge.now) }
         ensures judged { self.new.following.judged ≡ self.old.following.judged + 1 }
-        ensures tracked { OfTracked self.old (λ p v es. IsTracked p v (es ++ edge.now ∷ []) self.new) }
+        ensures tracked { OfTracked self.old (λ p v es.
+            IsTracked p v (es ++ edge.now ∷ []) self.new) }
         ensures line { OfTracked self.old (λ p v es. result.items ≡ next_line p v es edge.now) }
     {
         let n = self.following.judged + 1;

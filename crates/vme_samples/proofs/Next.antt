@@ -76,7 +76,8 @@ module _ (sample : List SeenChange) (set : Places) (i : ℕ) (n : Next sample se
           let same : s ≡ n.seen = same_seen s n.seen (sym at ∙ ap (slice_get sample) e ∙ n.at) in
           kept (earlier_there sample n.seen.change.signal set i k n.earlier (omega (arith, l, e)) (subst (λ (x : SeenChange). is_of sample x.change.signal k ≡ true) same of))
 
-  module _ (closed : Closed sample set) (mine : ℕ → Bool) (one : mine i ≡ true → (j : ℕ) → i < j → j < length sample → has_place set j ≡ true → mine j ≡ true → (s : SeenChange) × (slice_get sample j ≡ Some s) × (is_of sample s.change.signal i ≡ true)) where
+  module _ (closed : Closed sample set) (mine : ℕ → Bool) (one : mine i ≡ true → (j : ℕ) → i < j → j < length sample → has_place set j ≡ true → mine j ≡ true → (s : SeenChange)
+      × (slice_get sample j ≡ Some s) × (is_of sample s.change.signal i ≡ true)) where
     -- no later one of them is in the set
     later : mine i ≡ true → (j : ℕ) → i < j → j < length sample → mine j ≡ true → has_place set j ≡ false
     later own j l m also = is_false (has_place set j) (λ on. let x = one own j l m on also in never (has_place set i) (closed j x.0 x.1 on i l x.2) n.off)

@@ -120,7 +120,8 @@ module _ (p : Plan) (ok : IsAccepted p) (pins : List Pin) (probed : Probed) (sam
                   } in
                   subst (λ y. Told set y) (same_known x st is) (subst (λ s. Told s x) put now)
 
-      joined_told : (a b new : Option Standings) → Joins a b new → ((st : Standings) → a ≡ Some st → Told set st) → ((st : Standings) → b ≡ Some st → Told set st) → (st : Standings) → new ≡ Some st → Told set st
+      joined_told : (a b new : Option Standings) → Joins a b new → ((st : Standings) → a ≡ Some st → Told set st) → ((st : Standings) → b ≡ Some st → Told set st) → (st : Standings) → new ≡ Some st
+          → Told set st
       joined_told None b new j ta tb st is = tb st (sym j ∙ is)
       joined_told (Some a) None new j ta tb st is = ta st (sym j ∙ is)
       joined_told (Some a) (Some b) new (u, unites, j) ta tb st is =
@@ -135,7 +136,8 @@ module _ (p : Plan) (ok : IsAccepted p) (pins : List Pin) (probed : Probed) (sam
           joined_told others one new joins (gathered_told m others gathered) (led_told m one led) st is
 
     module _ (ways : AreWays p probed start sample known) where
-      hidden_told : (set : Places) (at : Option Standings) → Hides p probed at (hidden_behind known set) → ((x : Standings) → at ≡ Some x → Told set x) → (st : Standings) → hidden_behind known set ≡ Some st → Told set st
+      hidden_told : (set : Places) (at : Option Standings) → Hides p probed at (hidden_behind known set) → ((x : Standings) → at ≡ Some x → Told set x) → (st : Standings)
+          → hidden_behind known set ≡ Some st → Told set st
       hidden_told set None none told st is = absurd (clash (sym none ∙ is))
         where
           clash : None ≡ Some st → ⊥

@@ -41,7 +41,8 @@ use Rattle.vme_samples.proofs.OneMore.{with_here, with_other}
 use Rattle.vme_samples.proofs.Said.{count, said}
 use Rattle.vme_samples.proofs.Tells.{Fits, Tells, able, data, is_fall_of, is_of_wire, is_rise_of, moves_wire, not_nobody, open_cycles, says_fall, says_shown, shown_before, shown_other, shown_pin, shown_strobe, shows, some_shown, strobe, strobed_pin}
 
-module _ (p : Plan) (ok : IsAccepted p) (pins : List Pin) (probed : Probed) (sample : List SeenChange) (start : Standings) (set : Places) (i : ℕ) (n : Next sample set i) (closed : Closed sample set) (old : Standings) (tells : Tells p sample start set old) where
+module _ (p : Plan) (ok : IsAccepted p) (pins : List Pin) (probed : Probed) (sample : List SeenChange) (start : Standings) (set : Places) (i : ℕ) (n : Next sample set i) (closed : Closed sample set)
+    (old : Standings) (tells : Tells p sample start set old) where
   abbrev c : Change
   c = n.seen.change
 
@@ -57,10 +58,12 @@ module _ (p : Plan) (ok : IsAccepted p) (pins : List Pin) (probed : Probed) (sam
   falls_at : (f : Bool) → c.fall ≡ f → says_fall sample i ≡ f
   falls_at f e = read (λ s. s.change.fall) false ∙ e
 
-  pub one_of : (x : Signal) → is_of sample x i ≡ true → (j : ℕ) → i < j → j < len → has_place set j ≡ true → is_of sample x j ≡ true → (s : SeenChange) × (slice_get sample j ≡ Some s) × (is_of sample s.change.signal i ≡ true)
+  pub one_of : (x : Signal) → is_of sample x i ≡ true → (j : ℕ) → i < j → j < len → has_place set j ≡ true → is_of sample x j ≡ true → (s : SeenChange) × (slice_get sample j ≡ Some s)
+      × (is_of sample s.change.signal i ≡ true)
   one_of x own j l m on also = by_change (slice_get sample j) refl also
     where
-      by_change : (o : Option SeenChange) → slice_get sample j ≡ o → option_map_or (λ s. is_same_signal s.change.signal x) o false ≡ true → (s : SeenChange) × (slice_get sample j ≡ Some s) × (is_of sample s.change.signal i ≡ true)
+      by_change : (o : Option SeenChange) → slice_get sample j ≡ o → option_map_or (λ s. is_same_signal s.change.signal x) o false ≡ true → (s : SeenChange) × (slice_get sample j ≡ Some s)
+          × (is_of sample s.change.signal i ≡ true)
       by_change None is e = absurd (never false e refl)
       by_change (Some s) is e = (s, is, subst (λ y. is_of sample y i ≡ true) (sym (signal_same s.change.signal x e)) own)
 
@@ -249,7 +252,8 @@ module _ (p : Plan) (ok : IsAccepted p) (pins : List Pin) (probed : Probed) (sam
       data_falls : c.signal ≡ data → c.fall ≡ true → Counted
       data_falls is fall =
           let can : can_strobe old ≡ true = able makes.drivers (by_controller data true is fall) makes.some (can_strobe old) (has old.addressers) (by_boards data true is fall) in
-          let fresh : old.strobed ≡ false = not_true old.strobed (and_right (is_some old.shown && not (is_line_left_low old.lines line.Dtack) && not (is_line_left_low old.lines line.Berr)) (not old.strobed) can) in
+          let fresh : old.strobed ≡ false = not_true old.strobed (and_right (is_some old.shown && not (is_line_left_low old.lines line.Dtack) && not (is_line_left_low old.lines line.Berr))
+              (not old.strobed) can) in
           let on : is_some old.shown ≡ true =
           and_left (is_some old.shown) (not (is_line_left_low old.lines line.Dtack))
           (and_left (is_some old.shown && not (is_line_left_low old.lines line.Dtack)) (not (is_line_left_low old.lines line.Berr))

@@ -30,7 +30,8 @@ AreInOrder sample (i ∷ places) (c ∷ changes) =
 AreInOrder _ _ _ = ⊥
 
 -- and they are all changes of the sample
-pub record IsOrderOf (sample : List SeenChange) (places : List ℕ) (changes : List Change) : Type 0 where
+pub record IsOrderOf (sample : List SeenChange) (places : List ℕ)
+    (changes : List Change) : Type 0 where
   pub ordered : AreInOrder sample places changes
   pub whole : (i : ℕ) → i < length sample → has_place (set_of places) i ≡ true
 

@@ -40,8 +40,8 @@ pub record Unites (a b new : Standings) : Type 0 where
   pub fronts : UnitesFronts a.fronts b.fronts new.fronts
   pub requests : UnitesRequests a.requests b.requests new.requests
 
--- By both the probes saw the same: the levels, what is shown, and, while AS* is low, whether DS* has
--- fallen.
+-- By both the probes saw the same: the levels, what is shown, and, while AS* is low, whether DS*
+-- has fallen.
 pub record SeeAlike (a b : Standings) : Type 0 where
   pub lines : (l : Line) → is_line_left_low a.lines l ≡ is_line_left_low b.lines l
   pub low : (c : ChainId) (s : ℕ) → has_segment a.low c s ≡ has_segment b.low c s

@@ -25,8 +25,8 @@ ghost use Rattle.vme_standings.specs.declared.phases.GrantPhases.{GrantPhases};
 ghost use Rattle.vme_standings.specs.declared.requests.Requests.{Requests};
 ghost use Rattle.vme_standings.specs.declared.standings.Standings.{Standings};
 
-/// What covers the interrupt requests, who drives a wire, or how far an acknowledge has come, covers
-/// them in the union; and a phase of the grants and BBSY* that one of the two has is in it.
+/// What covers the interrupt requests, who drives a wire, or how far an acknowledge has come,
+/// covers them in the union; and a phase of the grants and BBSY* that one of the two has is in it.
 pub fn union_covers_what_one_covers()
     ensures requests { (p : Plan) (h : List Edge) (a b new : Requests) → UnitesRequests a b new
         → CoversRequests p h (may_be a) ⊎ CoversRequests p h (may_be b)
