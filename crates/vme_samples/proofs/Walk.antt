@@ -82,7 +82,7 @@ module _ (p : Plan) (ok : IsAccepted p) (pins : List Pin) (probed : Probed) (sam
   -- ---- one change that is seen
 
   module _ (h : List Edge) (e : Edge) (v : Change) (legal : IsLegal probed.version p (e ∷ h)) (s : seen p pins h e ≡ Some v) (set : Places) (near : set.bits < 2 ^ length sample) (fits : AllFit p ok pins probed sample start set) (st : Standings) (at : hidden_behind known set ≡ Some st) (covers : Covers p pins h st)
-    (i : ℕ) (next : comes_next sample set i ≡ true) (c : Change) (is : option_map (λ x. x.change) (slice_get sample i) ≡ Some c) (agree : agrees c v ≡ true) where
+      (i : ℕ) (next : comes_next sample set i ≡ true) (c : Change) (is : option_map (λ x. x.change) (slice_get sample i) ≡ Some c) (agree : agrees c v ≡ true) where
     abbrev pub n : Next sample set i
     n = next_of sample set i next
 
@@ -337,15 +337,18 @@ module _ (p : Plan) (ok : IsAccepted p) (pins : List Pin) (probed : Probed) (sam
               near = near_now (h ++ g) e v legal is (set_of places) w.near w.fits w.st w.at w.covers i order.1 c order.2 agree.0;
               fits = fits_now (h ++ g) e v legal is (set_of places) w.near w.fits w.st w.at w.covers i order.1 c order.2 agree.0;
               gathered = λ pos. gathered_now (h ++ g) e v legal is (set_of places) w.near w.fits w.st w.at w.covers i order.1 c order.2 agree.0;
-              steps = (w.steps, record {
-                seen = n.seen;
-                found = n.at;
-                next = order.1;
-                near = near_now (h ++ g) e v legal is (set_of places) w.near w.fits w.st w.at w.covers i order.1 c order.2 agree.0;
-                st = w.st;
-                at = w.at;
-                by = made_by (h ++ g) e v legal is (set_of places) w.near w.fits w.st w.at w.covers i order.1 c order.2 agree.0;
-              });
+              steps = (
+                w.steps,
+                record {
+                  seen = n.seen;
+                  found = n.at;
+                  next = order.1;
+                  near = near_now (h ++ g) e v legal is (set_of places) w.near w.fits w.st w.at w.covers i order.1 c order.2 agree.0;
+                  st = w.st;
+                  at = w.at;
+                  by = made_by (h ++ g) e v legal is (set_of places) w.near w.fits w.st w.at w.covers i order.1 c order.2 agree.0;
+                },
+              );
             }
 
   -- ---- who made them
