@@ -38,7 +38,8 @@ split p pins g (e ∷ h) (c ∷ cs) before agree = by_sight (seen p pins (h ++ g
     behind : (later earlier : List Edge) → h ≡ later ++ earlier → h ++ g ≡ later ++ (earlier ++ g)
     behind later earlier are = ap (λ (l : List Edge). l ++ g) are ∙ append_assoc later earlier g
 
-    put : (o : Option Change) → seen p pins (h ++ g) e ≡ o → (ks : List Change) (later earlier : List Edge) → h ≡ later ++ earlier → AgreeEach ks (with_sighting e.driver o (sightings p pins (earlier ++ g) later)) → AgreeEach ks (sightings p pins (earlier ++ g) (e ∷ later))
+    put : (o : Option Change) → seen p pins (h ++ g) e ≡ o → (ks : List Change) (later earlier : List Edge) → h ≡ later ++ earlier
+        → AgreeEach ks (with_sighting e.driver o (sightings p pins (earlier ++ g) later)) → AgreeEach ks (sightings p pins (earlier ++ g) (e ∷ later))
     put o is ks later earlier are a =
         subst (λ x. AgreeEach ks (with_sighting e.driver x (sightings p pins (earlier ++ g) later))) (sym is ∙ ap (λ l. seen p pins l e) (behind later earlier are)) a
 
@@ -68,13 +69,15 @@ pub legal_before : (v : Version) (p : Plan) (h g : List Edge) → IsLegal v p (h
 legal_before v p [] g legal = legal
 legal_before v p (e ∷ h) g legal = legal_before v p h g legal.1
 
-module _ (p : Plan) (ok : IsAccepted p) (pins : List Pin) (probed : Probed) (probes : AreProbed p pins probed.segments) (g : List Edge) (first : Standings) (covers : CoversHidden p pins probed g first) where
+module _ (p : Plan) (ok : IsAccepted p) (pins : List Pin) (probed : Probed) (probes : AreProbed p pins probed.segments) (g : List Edge) (first : Standings)
+    (covers : CoversHidden p pins probed g first) where
   -- edges that no probe sees leave what is known behind them
   unseen_leaves : (h : List Edge) → IsLegal probed.version p (h ++ g) → AgreeEach [] (sightings p pins g h) → CoversHidden p pins probed (h ++ g) first
   unseen_leaves [] legal agree = covers
   unseen_leaves (e ∷ h) legal agree = by_sight (seen p pins (h ++ g) e) refl agree (unseen_leaves h legal.1)
     where
-      by_sight : (o : Option Change) → seen p pins (h ++ g) e ≡ o → AgreeEach [] (with_sighting e.driver o (sightings p pins g h)) → (AgreeEach [] (sightings p pins g h) → CoversHidden p pins probed (h ++ g) first) → CoversHidden p pins probed (e ∷ (h ++ g)) first
+      by_sight : (o : Option Change) → seen p pins (h ++ g) e ≡ o → AgreeEach [] (with_sighting e.driver o (sightings p pins g h))
+          → (AgreeEach [] (sightings p pins g h) → CoversHidden p pins probed (h ++ g) first) → CoversHidden p pins probed (e ∷ (h ++ g)) first
       by_sight None is a before = λ hidden moved. unseen_covered p ok probed pins first hidden moved (h ++ g) probes e legal is (before a hidden moved)
       by_sight (Some v) is a before = absurd a
 
@@ -92,7 +95,8 @@ module _ (p : Plan) (ok : IsAccepted p) (pins : List Pin) (probed : Probed) (pro
       subst (λ l. CoversHidden p pins probed l last) (sym same) (subst (CoversHidden p pins probed (s.later ++ (s.earlier ++ g))) (sym (same_known last x.0 x.1)) x.2)
 
   -- if nothing is known behind a sample, no legal list shows it behind the others
-  pub never_shown : (samples : List (List SeenChange)) (old : Standings) → FollowSamples p probed first samples old → (sample : List SeenChange) (known : Known) → AreWays p probed old sample known → 0 < length sample
+  pub never_shown : (samples : List (List SeenChange)) (old : Standings) → FollowSamples p probed first samples old → (sample : List SeenChange) (known : Known) → AreWays p probed old sample known
+      → 0 < length sample
       → Gathered p probed sample known (all_of sample) (length sample) None → (changes : List Change) → AreOrdersOf (sample ∷ samples) changes
       → (h : List Edge) → IsLegal probed.version p (h ++ g) → AgreeEach changes (sightings p pins g h) → ⊥
   never_shown samples old follow sample known ways some none changes (places, here, before, order, orders, are) h legal agree =

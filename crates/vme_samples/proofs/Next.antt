@@ -32,7 +32,8 @@ next_of sample set i next = by_change (slice_get sample i) refl (and_right (not 
 
 earlier_there : (sample : List SeenChange) (x : Signal) (set : Places) (n k : ℕ) → earlier_in sample x set n ≡ true → k < n → is_of sample x k ≡ true → has_place set k ≡ true
 earlier_there sample x set zero k e l of = absurd (omega (arith, l))
-earlier_there sample x set (suc n) k e l of = by_order (cases_lt k n) (λ m. earlier_there sample x set n k (and_left (earlier_in sample x set n) (not (is_of sample x n && not (has_place set n))) e) m of)
+earlier_there sample x set (suc n) k e l of = by_order (cases_lt k n) (λ m. earlier_there sample x set n k
+    (and_left (earlier_in sample x set n) (not (is_of sample x n && not (has_place set n))) e) m of)
   where
     here : (a b : Bool) → not (a && not b) ≡ true → a ≡ true → b ≡ true
     here true true x y = refl

@@ -40,7 +40,8 @@ use Rattle.vme_samples.proofs.OneMore.{with_here, with_other}
 use Rattle.vme_samples.proofs.Said.{count, said}
 use Rattle.vme_samples.proofs.Tells.{Fits, Tells, able, chain_is, data_strobe, is_fall_of, is_of_wire, is_rise_of, moves_wire, not_nobody, one_if, open_cycles, same_pin, says_fall, says_shown, shown_before, shown_other, shown_pin, shown_strobe, shows, some_shown, strobe, strobed_pin}
 
-module _ (p : Plan) (ok : IsAccepted p) (pins : List Pin) (probed : Probed) (sample : List SeenChange) (start : Standings) (set : Places) (i : ℕ) (n : Next sample set i) (closed : Closed sample set) (old : Standings) (tells : Tells p sample start set old) where
+module _ (p : Plan) (ok : IsAccepted p) (pins : List Pin) (probed : Probed) (sample : List SeenChange) (start : Standings) (set : Places) (i : ℕ) (n : Next sample set i) (closed : Closed sample set)
+    (old : Standings) (tells : Tells p sample start set old) where
   abbrev c : Change
   c = n.seen.change
 
@@ -56,10 +57,12 @@ module _ (p : Plan) (ok : IsAccepted p) (pins : List Pin) (probed : Probed) (sam
   falls_at : (f : Bool) → c.fall ≡ f → says_fall sample i ≡ f
   falls_at f e = read (λ s. s.change.fall) false ∙ e
 
-  pub one_of : (x : Signal) → is_of sample x i ≡ true → (j : ℕ) → i < j → j < len → has_place set j ≡ true → is_of sample x j ≡ true → (s : SeenChange) × (slice_get sample j ≡ Some s) × (is_of sample s.change.signal i ≡ true)
+  pub one_of : (x : Signal) → is_of sample x i ≡ true → (j : ℕ) → i < j → j < len → has_place set j ≡ true → is_of sample x j ≡ true → (s : SeenChange) × (slice_get sample j ≡ Some s)
+      × (is_of sample s.change.signal i ≡ true)
   one_of x own j l m on also = by_change (slice_get sample j) refl also
     where
-      by_change : (o : Option SeenChange) → slice_get sample j ≡ o → option_map_or (λ s. is_same_signal s.change.signal x) o false ≡ true → (s : SeenChange) × (slice_get sample j ≡ Some s) × (is_of sample s.change.signal i ≡ true)
+      by_change : (o : Option SeenChange) → slice_get sample j ≡ o → option_map_or (λ s. is_same_signal s.change.signal x) o false ≡ true → (s : SeenChange) × (slice_get sample j ≡ Some s)
+          × (is_of sample s.change.signal i ≡ true)
       by_change None is e = absurd (never false e refl)
       by_change (Some s) is e = (s, is, subst (λ y. is_of sample y i ≡ true) (sym (signal_same s.change.signal x e)) own)
 
@@ -177,7 +180,8 @@ module _ (p : Plan) (ok : IsAccepted p) (pins : List Pin) (probed : Probed) (sam
       shown_was : (f : Bool) → c.signal ≡ strobe → c.fall ≡ f → is_some old.shown ≡ not f
       shown_was f is fall =
           let own : is_of sample strobe i ≡ true = is_at strobe strobe is in
-          ap (λ (y : Option Shown). is_some y) (tells.shown ∙ said_before sample set i n closed (is_of sample strobe) (one_of strobe) (says_shown sample) start.shown own (earlier_of sample set i n strobe is))
+          ap (λ (y : Option Shown). is_some y) (tells.shown ∙ said_before sample set i n closed (is_of sample strobe) (one_of strobe) (says_shown sample) start.shown own
+          (earlier_of sample set i n strobe is))
           ∙ fits_here.strobe own ∙ ap not (falls_at f fall)
 
       fall_is : (x : Signal) (f : Bool) → c.signal ≡ x → c.fall ≡ f → is_fall_of sample data_strobe i ≡ (is_same_signal x data_strobe && f)
@@ -248,7 +252,8 @@ module _ (p : Plan) (ok : IsAccepted p) (pins : List Pin) (probed : Probed) (sam
       data_falls : c.signal ≡ data_strobe → c.fall ≡ true → Counted
       data_falls is fall =
           let can : can_strobe old ≡ true = able makes.drivers (by_controller data_strobe true is fall) makes.some (can_strobe old) (has old.addressers) (by_boards data_strobe true is fall) in
-          let fresh : old.strobed ≡ false = not_true old.strobed (and_right (is_some old.shown && not (is_line_left_low old.lines line.Dtack) && not (is_line_left_low old.lines line.Berr)) (not old.strobed) can) in
+          let fresh : old.strobed ≡ false = not_true old.strobed (and_right (is_some old.shown && not (is_line_left_low old.lines line.Dtack) && not (is_line_left_low old.lines line.Berr))
+          (not old.strobed) can) in
           let on : is_some old.shown ≡ true =
           and_left (is_some old.shown) (not (is_line_left_low old.lines line.Dtack))
           (and_left (is_some old.shown && not (is_line_left_low old.lines line.Dtack)) (not (is_line_left_low old.lines line.Berr))

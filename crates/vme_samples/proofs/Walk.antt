@@ -81,7 +81,8 @@ module _ (p : Plan) (ok : IsAccepted p) (pins : List Pin) (probed : Probed) (sam
 
   -- ---- one change that is seen
 
-  module _ (h : List Edge) (e : Edge) (v : Change) (legal : IsLegal probed.version p (e ∷ h)) (s : seen p pins h e ≡ Some v) (set : Places) (near : set.bits < 2 ^ length sample) (fits : AllFit p ok pins probed sample start set) (st : Standings) (at : hidden_behind known set ≡ Some st) (covers : Covers p pins h st)
+  module _ (h : List Edge) (e : Edge) (v : Change) (legal : IsLegal probed.version p (e ∷ h)) (s : seen p pins h e ≡ Some v) (set : Places) (near : set.bits < 2 ^ length sample)
+      (fits : AllFit p ok pins probed sample start set) (st : Standings) (at : hidden_behind known set ≡ Some st) (covers : Covers p pins h st)
       (i : ℕ) (next : comes_next sample set i ≡ true) (c : Change) (is : option_map (λ x. x.change) (slice_get sample i) ≡ Some c) (agree : agrees c v ≡ true) where
     abbrev pub n : Next sample set i
     n = next_of sample set i next
@@ -218,7 +219,8 @@ module _ (p : Plan) (ok : IsAccepted p) (pins : List Pin) (probed : Probed) (sam
               over = first_covers probed.version p pins ok (e ∷ h) legal a b u unites (subst (Covers p pins (e ∷ h)) (sym (same_known a c.now c.found)) c.over);
             }
 
-        added : (a b : Option Standings) → Joins a b new → ((x : Standings) → a ≡ Some x → Told p ok pins probed sample start (with set i) x) → ((x : Standings) → b ≡ Some x → Told p ok pins probed sample start (with set i) x) → Covered b → Covered new
+        added : (a b : Option Standings) → Joins a b new → ((x : Standings) → a ≡ Some x → Told p ok pins probed sample start (with set i) x)
+            → ((x : Standings) → b ≡ Some x → Told p ok pins probed sample start (with set i) x) → Covered b → Covered new
         added None b j ta tb c = record { now = c.now; found = j ∙ c.found; over = c.over }
         added (Some a) None j ta tb c = absurd (let x = c.found in cc)
         added (Some a) (Some b) (u, unites, j) ta tb c =
@@ -299,14 +301,16 @@ module _ (p : Plan) (ok : IsAccepted p) (pins : List Pin) (probed : Probed) (sam
           steps = tt;
         }
 
-    pub walked : (h : List Edge) → IsLegal probed.version p (h ++ g) → (places : List ℕ) (cs : List Change) → AreInOrder sample places cs → AgreeEach cs (sightings p pins g h) → Walked places (h ++ g) (sightings p pins g h)
+    pub walked : (h : List Edge) → IsLegal probed.version p (h ++ g) → (places : List ℕ) (cs : List Change) → AreInOrder sample places cs → AgreeEach cs (sightings p pins g h)
+        → Walked places (h ++ g) (sightings p pins g h)
     walked [] legal [] [] order agree = none_made
     walked [] legal [] (c ∷ cs) order agree = absurd agree
     walked [] legal (i ∷ places) [] order agree = absurd order
     walked [] legal (i ∷ places) (c ∷ cs) order agree = absurd agree
     walked (e ∷ h) legal places cs order agree = by_sight (seen p pins (h ++ g) e) refl places cs order agree (walked h legal.1)
       where
-        by_sight : (o : Option Change) → seen p pins (h ++ g) e ≡ o → (places : List ℕ) (cs : List Change) → AreInOrder sample places cs → AgreeEach cs (with_sighting e.driver o (sightings p pins g h))
+        by_sight : (o : Option Change) → seen p pins (h ++ g) e ≡ o → (places : List ℕ) (cs : List Change) → AreInOrder sample places cs
+            → AgreeEach cs (with_sighting e.driver o (sightings p pins g h))
             → ((is : List ℕ) (ks : List Change) → AreInOrder sample is ks → AgreeEach ks (sightings p pins g h) → Walked is (h ++ g) (sightings p pins g h))
             → Walked places (e ∷ (h ++ g)) (with_sighting e.driver o (sightings p pins g h))
         by_sight None none places cs order agree before =
@@ -372,7 +376,8 @@ module _ (p : Plan) (ok : IsAccepted p) (pins : List Pin) (probed : Probed) (sam
         let d : AreDrivers p probed step.st step.seen.change a.drivers =
         subst (λ o. AreOf p probed (Some step.st) o a.drivers) step.found
         (subst (λ o. AreOf p probed o (slice_get sample i) a.drivers) step.at
-        (a.next.able step.next (both (nat_le (with (set_of places) i).bits goal.bits) (reaching_at makers.reaching (with (set_of places) i)) (le (with (set_of places) i).bits goal.bits (within (with (set_of places) i) l)) reaches))) in
+        (a.next.able step.next (both (nat_le (with (set_of places) i).bits goal.bits) (reaching_at makers.reaching (with (set_of places) i))
+        (le (with (set_of places) i).bits goal.bits (within (with (set_of places) i) l)) reaches))) in
         let m = step.by a.drivers d in
         (among_all a.drivers (by i) a.among x.driver m.1, named places xs rest (a.reaches m.0))
       where

@@ -46,14 +46,16 @@ pub record IsOrderOf (sample : List SeenChange) (places : List ℕ)
 
 -- a legal list of edges, those of g and then those of h, shows the changes of the sample in some
 -- order by those of h
-pub record ShowsIn (version : Version) (p : Plan) (pins : List Pin) (g h : List Edge) (sample : List SeenChange) : Type 0 where
+pub record ShowsIn (version : Version) (p : Plan) (pins : List Pin) (g h : List Edge)
+    (sample : List SeenChange) : Type 0 where
   pub places : List ℕ
   pub changes : List Change
   pub order : IsOrderOf sample places changes
   pub legal : IsLegal version p (h ++ g)
   pub agree : AgreeEach changes (sightings p pins g h)
 
--- The changes of these samples, each of which is made in some order. The newest sample is the first.
+-- The changes of these samples, each of which is made in some order. The newest sample is the
+-- first.
 abbrev pub AreOrdersOf : List (List SeenChange) → List Change → Type 0
 AreOrdersOf [] changes = changes ≡ []
 AreOrdersOf (sample ∷ earlier) changes =
