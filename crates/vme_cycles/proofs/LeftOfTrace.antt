@@ -63,10 +63,13 @@ module _ (p : Plan) (trace : List ℕ) (s : Streams) where
         (λ w es has. subst (Wrote s) (lines_are p w es has.0 has.1) has.2) trace s f waits)
     | inr other ↦ elim other [
       | inl never ↦ absurd never.0
-      | inr write ↦ inr (write.0, elim write.1 [
-        | inl lines ↦ cut (read_of trace) lines
-        | inr text ↦ whole (read_of trace) text.0 (WroteFront s) text.1 text.2 text.3
-      ])
+      | inr write ↦ inr (
+        write.0,
+        elim write.1 [
+          | inl lines ↦ cut (read_of trace) lines
+          | inr text ↦ whole (read_of trace) text.0 (WroteFront s) text.1 text.2 text.3
+        ],
+      )
     ]
   ]
 

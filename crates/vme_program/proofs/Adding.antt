@@ -157,7 +157,7 @@ module _ (p : Plan) (a b : Known) (now : Added) (counted : now.traces ≡ 0 → 
   totals_cut c (Ok u) first rest = tt
   totals_cut c (Err f) first rest = λ ts are.
       subst (λ n. AppendsFront a c (totals p ts n)) are.traces (some_shown (AppendsFront a c) p ts now.traces some
-          (front_behind a b c (traces_line now.traces) (sums_text p ts) first (rest ts are.sums)))
+      (front_behind a b c (traces_line now.traces) (sums_text p ts) first (rest ts are.sums)))
 
 -- a line could not be written
 pub lines_cut : (p : Plan) (names : List (List ℕ)) (a b : Known) (f : Fault) → TakesAll names a b (Err f) p → SumsAll names a b (Err f) p

@@ -65,7 +65,7 @@ pub run_done : (scenario : Bor (List ℕ)) (text : List ℕ) (edges turns : ℕ)
 run_done scenario text edges turns version old new (Ok status) does = (text, does)
 run_done scenario text edges turns version old new (Err (run.Engine f)) does =
     fault_handed (Does (OnScenario scenario (Run edges turns version)) old new) (Stops (OnScenario scenario (Run edges turns version))) (Fails (OnScenario scenario (Run edges turns version)) old new)
-        (Keeps old new) scenario f
+    (Keeps old new) scenario f
     (text, does) (λ h. absurd h.1) (λ h. h.1.1)
 run_done scenario text edges turns version old new (Err run.NotStarted) does = (text, does)
 run_done scenario text edges turns version old new (Err (run.LogDiffers driver at)) does = (text, does)
@@ -97,7 +97,7 @@ order_done scenario moments text slacks places progress form from to old new ans
     by (Ok status) does = (text, from, to, does)
     by (Err (order.Engine f)) does =
         fault_handed (Does (OnScenario scenario (Order moments slacks places progress)) old new) (Stops (OnScenario scenario (Order moments slacks places progress)))
-            (Fails (OnScenario scenario (Order moments slacks places progress)) old new) (Keeps old new) scenario f (text, from, to, does) (λ h. absurd h.3.3.2) (λ h. h.3.1.1)
+        (Fails (OnScenario scenario (Order moments slacks places progress)) old new) (Keeps old new) scenario f (text, from, to, does) (λ h. absurd h.3.3.2) (λ h. h.3.1.1)
     by (Err (order.Moments f)) does = (text, from, to, does)
     by (Err (order.NoBoard slot)) does = (text, from, to, does)
     by (Err order.TooManyOrders) does = (text, from, to, does)

@@ -59,10 +59,13 @@ module _ (p : Plan) (trace : List ℕ) (s : Streams) where
     | inr other ↦ elim other [
       | inl own ↦ inl (subst (λ (g : Fault). StopsWaiting Waits trace s g) (sym own.0)
           (own.1.0, own.1.1, own.1.2, (own.1.3, lines_are p (read_of trace).version own.1.0 own.1.3 own.1.4, own.1.5)))
-      | inr write ↦ inr (write.0, elim write.1 [
-        | inl cut ↦ inl (cut.0, cut.1, cut.2, cut.3, lines_are p (read_of trace).version cut.0 cut.3 cut.4, cut.5)
-        | inr text ↦ inr (text.1, text_is p (read_of trace).version (read_of trace).edges text.1 text.2, text.3)
-      ])
+      | inr write ↦ inr (
+        write.0,
+        elim write.1 [
+          | inl cut ↦ inl (cut.0, cut.1, cut.2, cut.3, lines_are p (read_of trace).version cut.0 cut.3 cut.4, cut.5)
+          | inr text ↦ inr (text.1, text_is p (read_of trace).version (read_of trace).edges text.1 text.2, text.3)
+        ],
+      )
     ]
   ]
 

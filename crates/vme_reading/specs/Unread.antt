@@ -53,5 +53,5 @@ pub reports_unbegun : (Lines Text : Writes) (Fails : Fault → Type 0) (p : Plan
     → ReportsEach Lines Text Fails p trace s (Err f)
 reports_unbegun Lines Text Fails p trace s f nothing h =
     inl (stops_unread (λ version es. (bytes : List ℕ) × AreLinesAt Lines p version es bytes
-        × Wrote s bytes)
+    × Wrote s bytes)
     ([], refl, Appends-kept s.old s.old s.new [] (Appends-nil s.old) nothing) trace s f h)

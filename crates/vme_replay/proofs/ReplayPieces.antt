@@ -173,7 +173,7 @@ module _ (form : LineForm) where
   pub replay_takes : (p : Plan) (v : Version) (es : List Edge) (more : Result Bool Fault) (old new : Option (List ℕ)) (now : Replaying) (answer : Result (Option Status) Fault) → now.form ≡ form
       → TakesPiece form (bench p v) 0 es more old new now.bus now.judged answer
       → Takes (λ fs x y (s : Replaying). (s.form ≡ form) × TakesPiece form (bench p v) 0 fs (Ok true) x y s.bus s.judged (Ok None))
-          (λ trace s a. Replays form p [] trace s (traced a)) v es more old new now answer
+      (λ trace s a. Replays form p [] trace s (traced a)) v es more old new now answer
   replay_takes p v es more old new now (Ok None) same h = (same, subst (λ (m : Result Bool Fault). TakesPiece form (bench p v) 0 es m old new now.bus now.judged (Ok None)) h.0 h)
   replay_takes p v es more old new now (Ok (Some status)) same h = λ trace from to came. replays_end p v trace (streams from to old new) es more came status h.0 h.1 h.2
   replay_takes p v es more old new now (Err f) same h = λ trace from to came. elim h [

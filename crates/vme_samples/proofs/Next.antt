@@ -32,19 +32,20 @@ next_of sample set i next = by_change (slice_get sample i) refl (and_right (not 
 
 earlier_there : (sample : List SeenChange) (x : Signal) (set : Places) (n k : ℕ) → earlier_in sample x set n ≡ true → k < n → is_of sample x k ≡ true → has_place set k ≡ true
 earlier_there sample x set zero k e l of = absurd (omega (arith, l))
-earlier_there sample x set (suc n) k e l of = by_order (cases_lt k n)
+earlier_there sample x set (suc n) k e l of = by_order (cases_lt k n) (λ m. earlier_there sample x set n k
+    (and_left (earlier_in sample x set n) (not (is_of sample x n && not (has_place set n))) e) m of)
   where
     here : (a b : Bool) → not (a && not b) ≡ true → a ≡ true → b ≡ true
     here true true x y = refl
     here true false x y = x
     here false b x y = absurd (never false y refl)
 
-    by_order : (k < n) ⊎ (n ≤ k) → has_place set k ≡ true
-    by_order (inl m) = earlier_there sample x set n k (and_left (earlier_in sample x set n) _ e) m of
-    by_order (inr m) =
+    by_order : (k < n) ⊎ (n ≤ k) → (k < n → has_place set k ≡ true) → has_place set k ≡ true
+    by_order (inl m) rest = rest m
+    by_order (inr m) rest =
         let q : n ≡ k = omega (arith, l, m) in
         subst (λ j. has_place set j ≡ true) q
-        (here (is_of sample x n) (has_place set n) (and_right (earlier_in sample x set n) _ e) (subst (λ j. is_of sample x j ≡ true) (sym q) of))
+        (here (is_of sample x n) (has_place set n) (and_right (earlier_in sample x set n) (not (is_of sample x n && not (has_place set n))) e) (subst (λ j. is_of sample x j ≡ true) (sym q) of))
 
 -- with each change the set has all earlier ones of its line or pin
 abbrev pub Closed : List SeenChange → Places → Type 0

@@ -11,7 +11,7 @@ use Rattle.std.proofs.lemmas.Nat.Bits.{and_pow, bit_at-lt, bit_at-pow_other, bit
 use Rattle.vme_samples.specs.declared.places.Places.{Places}
 use Rattle.vme_samples.specs.Places.{has_place, with, without}
 
-off_bit : (n i : ℕ) → (bit_at n i == 1) ≡ false → bit_at n i ≡ 0
+pub off_bit : (n i : ℕ) → (bit_at n i == 1) ≡ false → bit_at n i ≡ 0
 off_bit n i e = by_bit (bit_at n i) (bit_at-lt n i) e
   where
     by_bit : (b : ℕ) → b < 2 → (b == 1) ≡ false → b ≡ 0
@@ -19,7 +19,10 @@ off_bit n i e = by_bit (bit_at n i) (bit_at-lt n i) e
 
 -- such a bit is put in by a sum
 added : (n i : ℕ) → (bit_at n i == 1) ≡ false → n + 2 ^ i ≡ bit_or n (2 ^ i)
-added n i off = sym (or_disjoint n (2 ^ i) (and_pow n i ∙ ap (λ b. b * 2 ^ i) (off_bit n i off)))
+added n i off = sym (or_disjoint n (2 ^ i) (and_pow n i ∙ ap (λ b. b * 2 ^ i) (off_bit n i off) ∙ no_times (2 ^ i)))
+  where
+    no_times : (k : ℕ) → 0 * k ≡ 0
+    no_times k = omega arith
 
 pub with_here : (set : Places) (i : ℕ) → has_place set i ≡ false → has_place (with set i) i ≡ true
 with_here set i off =

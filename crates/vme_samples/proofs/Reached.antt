@@ -11,6 +11,7 @@ use Rattle.vme_captures.specs.declared.signals.Pin.{Pin}
 use Rattle.vme_captures.specs.declared.signals.Signal.TheVariants as signal
 use Rattle.vme_captures.specs.Levels.{is_line_left_low}
 use Rattle.vme_standings.specs.declared.standings.Probed.{Probed}
+use Rattle.vme_standings.specs.declared.standings.Shown.{Shown}
 use Rattle.vme_standings.specs.declared.standings.Standings.{Standings}
 use Rattle.vme_standings.specs.Hidden.{HasMoved}
 use Rattle.vme_standings.specs.Segments.{has_segment}
@@ -24,7 +25,7 @@ use Rattle.vme_samples.specs.Ways.{AreWays, Gathered, Hides, Joins, Known, LedTo
 use Rattle.vme_samples.proofs.Next.{Closed, Next, closed_next, next_of}
 use Rattle.vme_samples.proofs.OneMore.{none_in, same_places, taken_out, with_more, with_other}
 use Rattle.vme_samples.proofs.Said.{count, count_none, said, said_up}
-use Rattle.vme_samples.proofs.Tells.{Fits, Tells, data, is_fall_of, is_of_wire, is_rise_of, open_cycles, says_fall, says_shown, strobe}
+use Rattle.vme_samples.proofs.Tells.{Fits, Tells, data_strobe, is_fall_of, is_of_wire, is_rise_of, one_if, open_cycles, says_fall, says_shown, strobe}
 use Rattle.vme_samples.proofs.TellsNext.{tells_next}
 
 pub same_known : (a b : Standings) → Some a ≡ Some b → a ≡ b
@@ -49,7 +50,7 @@ module _ (p : Plan) (ok : IsAccepted p) (pins : List Pin) (probed : Probed) (sam
       strobed =
           told.tells.strobed
           ∙ ap (λ k. count (is_rise_of sample strobe) (has_place set) (length sample) + k)
-          (sym (ap (λ x. if is_some x && new.strobed then 1 else 0) moved.shown ∙ ap (λ x. if is_some old.shown && x then 1 else 0) moved.strobed));
+          (sym (ap (λ (x : Option Shown). one_if (is_some x && new.strobed)) moved.shown ∙ ap (λ x. one_if (is_some old.shown && x)) moved.strobed));
     };
   }
 
@@ -63,7 +64,7 @@ module _ (p : Plan) (ok : IsAccepted p) (pins : List Pin) (probed : Probed) (sam
       strobed =
           told.tells.strobed
           ∙ ap (λ k. count (is_rise_of sample strobe) (has_place set) (length sample) + k)
-          (sym (ap (λ x. if is_some x && new.strobed then 1 else 0) unites.shown ∙ ap (λ x. if is_some a.shown && x then 1 else 0) unites.strobed));
+          (sym (ap (λ (x : Option Shown). one_if (is_some x && new.strobed)) unites.shown ∙ ap (λ x. one_if (is_some a.shown && x)) unites.strobed));
     };
   }
 
@@ -77,7 +78,7 @@ module _ (p : Plan) (ok : IsAccepted p) (pins : List Pin) (probed : Probed) (sam
       shown = sym (said_up (is_of sample strobe) (says_shown sample) start.shown (has_place set) 0 (length sample) (omega arith) (λ j a b c. none_in set z j));
       strobed =
           ap (λ k. k + open_cycles start)
-          (count_none (is_fall_of sample data) (has_place set) (length sample) (none_in set z) ∙ sym (count_none (is_rise_of sample strobe) (has_place set) (length sample) (none_in set z)));
+          (count_none (is_fall_of sample data_strobe) (has_place set) (length sample) (none_in set z) ∙ sym (count_none (is_rise_of sample strobe) (has_place set) (length sample) (none_in set z)));
     };
   }
 
@@ -94,7 +95,7 @@ module _ (p : Plan) (ok : IsAccepted p) (pins : List Pin) (probed : Probed) (sam
       led_told i (Some x) led st is = by_able (may_be_last sample set i) refl
         where
           by_able : (b : Bool) → may_be_last sample set i ≡ b → Told set st
-          by_able false no = absurd (clash (led.unable no))
+          by_able false cannot = absurd (clash (led.unable cannot))
             where
               clash : Some x ≡ None → ⊥
               clash e = cc
@@ -152,7 +153,7 @@ module _ (p : Plan) (ok : IsAccepted p) (pins : List Pin) (probed : Probed) (sam
 
       pub reached_told : (m : ℕ) (set : Places) → set.bits < m → set.bits < 2 ^ length sample → AllFit set → (st : Standings) → hidden_behind known set ≡ Some st → Told set st
       reached_told zero set l near fits st is = absurd (omega (arith, l))
-      reached_told (suc m) set l near fits st is = by_size (cases_lt 0 set.bits)
+      reached_told (suc m) set l near fits st is = by_size (cases_lt 0 set.bits) (λ s k. reached_told m s k)
         where
           start_of : (x : Standings) → Some start ≡ Some x → start ≡ x
           start_of x e = cc
@@ -160,14 +161,15 @@ module _ (p : Plan) (ok : IsAccepted p) (pins : List Pin) (probed : Probed) (sam
           less : (i : ℕ) → has_place set i ≡ true → (without set i).bits < set.bits
           less i on = subst (λ s. (without set i).bits < s.bits) (taken_out set i on) (with_more (without set i) i)
 
-          by_size : (0 < set.bits) ⊎ (set.bits ≤ 0) → Told set st
-          by_size (inl pos) =
+          by_size : (0 < set.bits) ⊎ (set.bits ≤ 0)
+              → ((s : Places) → s.bits < m → s.bits < 2 ^ length sample → AllFit s → (x : Standings) → hidden_behind known s ≡ Some x → Told s x) → Told set st
+          by_size (inl pos) rest =
               let k = ways.others set pos near in
               hidden_told set k.at k.hides
               (gathered_told set fits
-              (λ i on n h at. let q = less i on in reached_told m (without set i) (omega (arith, q, l)) (omega (arith, q, near)) (fits_before set i on n fits) h at)
+              (λ i on n h at. let q = less i on in rest (without set i) (omega (arith, q, l)) (omega (arith, q, near)) (fits_before set i on n fits) h at)
               (length sample) k.at k.gathered) st is
-          by_size (inr none) =
+          by_size (inr none) rest =
               let z : set.bits ≡ 0 = omega (arith, none) in
               let e : set ≡ record { bits = 0 } = same_places set (record { bits = 0 }) z in
               hidden_told set (Some start) (subst (λ s. Hides p probed (Some start) (hidden_behind known s)) (sym e) ways.begins)

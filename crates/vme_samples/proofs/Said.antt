@@ -22,6 +22,10 @@ and_off : (m a : Bool) → (m ≡ true → a ≡ false) → (m && a) ≡ false
 and_off true a e = e refl
 and_off false a e = refl
 
+none_and : (m : Bool) → (m && false) ≡ false
+none_and true = refl
+none_and false = refl
+
 module _ (mine : ℕ → Bool) where
   module _ {A : Type 0} (says : ℕ → A) (first : A) where
     pub said_same : (a b : ℕ → Bool) (n : ℕ) → ((j : ℕ) → j < n → mine j ≡ true → a j ≡ b j) → said mine says first a n ≡ said mine says first b n
@@ -33,13 +37,11 @@ module _ (mine : ℕ → Bool) where
     -- the others are not there
     pub said_up : (a : ℕ → Bool) (i n : ℕ) → i ≤ n → ((j : ℕ) → i ≤ j → j < n → mine j ≡ true → a j ≡ false) → said mine says first a n ≡ said mine says first a i
     said_up a i zero l off = let z : i ≡ 0 = omega (arith, l) in ap (said mine says first a) (sym z)
-    said_up a i (suc n) l off = by_order (cases_lt n i)
+    said_up a i (suc n) l off = by_order (cases_lt n i) (λ m. said_up a i n m (λ j x y. off j x (omega (arith, y))))
       where
-        by_order : (n < i) ⊎ (i ≤ n) → said mine says first a (suc n) ≡ said mine says first a i
-        by_order (inl m) = let e : i ≡ suc n = omega (arith, l, m) in ap (said mine says first a) (sym e)
-        by_order (inr m) =
-            ap (λ x. if x then says n else said mine says first a n) (and_off (mine n) (a n) (off n m (omega arith)))
-            ∙ said_up a i n m (λ j x y. off j x (omega (arith, y)))
+        by_order : (n < i) ⊎ (i ≤ n) → (i ≤ n → said mine says first a n ≡ said mine says first a i) → said mine says first a (suc n) ≡ said mine says first a i
+        by_order (inl m) rest = let e : i ≡ suc n = omega (arith, l, m) in ap (said mine says first a) (sym e)
+        by_order (inr m) rest = ap (λ x. if x then says n else said mine says first a n) (and_off (mine n) (a n) (off n m (omega arith))) ∙ rest m
 
     -- the last one there
     pub said_last : (a : ℕ → Bool) (i n : ℕ) → i < n → mine i ≡ true → a i ≡ true → ((j : ℕ) → i < j → j < n → mine j ≡ true → a j ≡ false) → said mine says first a n ≡ says i
@@ -61,17 +63,17 @@ module _ (mine : ℕ → Bool) where
   -- one more
   pub count_more : (a b : ℕ → Bool) (i n : ℕ) → i < n → mine i ≡ true → a i ≡ false → b i ≡ true → ((j : ℕ) → j ≢ i → b j ≡ a j) → count mine b n ≡ count mine a n + 1
   count_more a b i zero l own off on same = absurd (omega (arith, l))
-  count_more a b i (suc n) l own off on same = by_order (cases_lt i n)
+  count_more a b i (suc n) l own off on same = by_order (cases_lt i n) (λ m. count_more a b i n m own off on same)
     where
-      by_order : (i < n) ⊎ (n ≤ i) → count mine b (suc n) ≡ count mine a (suc n) + 1
-      by_order (inl m) =
+      by_order : (i < n) ⊎ (n ≤ i) → (i < n → count mine b n ≡ count mine a n + 1) → count mine b (suc n) ≡ count mine a (suc n) + 1
+      by_order (inl m) rest =
           ap (λ x. if mine n && x then count mine b n + 1 else count mine b n) (same n (λ e. absurd (omega (arith, m, e))))
-          ∙ ap (λ x. if mine n && a n then x + 1 else x) (count_more a b i n m own off on same) ∙ out (mine n && a n) (count mine a n)
+          ∙ ap (λ x. if mine n && a n then x + 1 else x) (rest m) ∙ out (mine n && a n) (count mine a n)
         where
           out : (t : Bool) (k : ℕ) → (if t then k + 1 + 1 else k + 1) ≡ (if t then k + 1 else k) + 1
           out true k = refl
           out false k = refl
-      by_order (inr m) =
+      by_order (inr m) rest =
           let e : i ≡ n = omega (arith, l, m) in
           at_end (subst (λ k. mine k ≡ true) e own) (subst (λ k. a k ≡ false) e off) (subst (λ k. b k ≡ true) e on)
           (count_same b a n (λ j x y. same j (λ q. absurd (omega (arith, x, q, e)))))
@@ -79,8 +81,4 @@ module _ (mine : ℕ → Bool) where
           at_end : mine n ≡ true → a n ≡ false → b n ≡ true → count mine b n ≡ count mine a n → count mine b (suc n) ≡ count mine a (suc n) + 1
           at_end own off on rest =
               ap (λ x. if x && b n then count mine b n + 1 else count mine b n) own ∙ ap (λ x. if x then count mine b n + 1 else count mine b n) on ∙ ap (λ x. x + 1) rest
-              ∙ sym (ap (λ x. (if mine n && x then count mine a n + 1 else count mine a n) + 1) off ∙ ap (λ x. (if x then count mine a n + 1 else count mine a n) + 1) (no (mine n)))
-
-      no : (m : Bool) → (m && false) ≡ false
-      no true = refl
-      no false = refl
+              ∙ sym (ap (λ x. (if mine n && x then count mine a n + 1 else count mine a n) + 1) off ∙ ap (λ x. (if x then count mine a n + 1 else count mine a n) + 1) (none_and (mine n)))

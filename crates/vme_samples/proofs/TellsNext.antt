@@ -17,7 +17,7 @@ use Rattle.vme_captures.specs.declared.signals.Signal.TheVariants as signal
 use Rattle.vme_captures.specs.Levels.{is_line_left_low}
 use Rattle.vme_captures.specs.Signals.{is_same_chain, is_same_line, is_same_signal}
 use Rattle.vme_captures.specs.Wires.{pin_on, wire_of}
-use Rattle.vme_captures.proofs.Same.{chain_same, line_other, line_same, signal_same}
+use Rattle.vme_captures.proofs.Same.{line_other, line_same, signal_same}
 use Rattle.vme_standings.specs.declared.standings.Drivers.{Drivers}
 use Rattle.vme_standings.specs.declared.standings.Probed.{Probed}
 use Rattle.vme_standings.specs.declared.standings.Shown.{Shown}
@@ -28,7 +28,6 @@ use Rattle.vme_standings.specs.Driving.{BoardsMake, ControllerMakes, can_end, ca
 use Rattle.vme_standings.specs.Moving.{moved_by}
 use Rattle.vme_standings.specs.Segments.{has_segment}
 use Rattle.vme_standings.specs.Standings.{is_nobody}
-use Rattle.vme_standings.proofs.JoinedCaptures.{same_pin}
 use Rattle.vme_standings.proofs.JoinedSegments.{wire_at}
 use Rattle.vme_standings.proofs.Tests.{both, is_false, never}
 use Rattle.vme_samples.specs.declared.places.Places.{Places}
@@ -39,7 +38,7 @@ use Rattle.vme_samples.specs.Ways.{Makes}
 use Rattle.vme_samples.proofs.Next.{Closed, Next, count_kept, count_next, earlier_of, said_before, said_kept, said_next}
 use Rattle.vme_samples.proofs.OneMore.{with_here, with_other}
 use Rattle.vme_samples.proofs.Said.{count, said}
-use Rattle.vme_samples.proofs.Tells.{Fits, Tells, able, data, is_fall_of, is_of_wire, is_rise_of, moves_wire, not_nobody, open_cycles, says_fall, says_shown, shown_before, shown_other, shown_pin, shown_strobe, shows, some_shown, strobe, strobed_pin}
+use Rattle.vme_samples.proofs.Tells.{Fits, Tells, able, chain_is, data_strobe, is_fall_of, is_of_wire, is_rise_of, moves_wire, not_nobody, one_if, open_cycles, same_pin, says_fall, says_shown, shown_before, shown_other, shown_pin, shown_strobe, shows, some_shown, strobe, strobed_pin}
 
 module _ (p : Plan) (ok : IsAccepted p) (pins : List Pin) (probed : Probed) (sample : List SeenChange) (start : Standings) (set : Places) (i : ℕ) (n : Next sample set i) (closed : Closed sample set)
     (old : Standings) (tells : Tells p sample start set old) where
@@ -80,7 +79,7 @@ module _ (p : Plan) (ok : IsAccepted p) (pins : List Pin) (probed : Probed) (sam
     is = refl;
     wire =
         wire_at p ok q
-        ∙ ap (λ y. segment_at y (unwrap_or (wire_of p q).place 0)) (sym (chain_same ch q.chain (and_left (is_same_chain ch q.chain) (t == unwrap_or (wire_of p q).place 0) e)))
+        ∙ ap (λ y. segment_at y (unwrap_or (wire_of p q).place 0)) (sym (chain_is ch q.chain (and_left (is_same_chain ch q.chain) (t == unwrap_or (wire_of p q).place 0) e)))
         ∙ ap (λ y. segment_at ch y) (sym (same_number t (unwrap_or (wire_of p q).place 0) (and_right (is_same_chain ch q.chain) (t == unwrap_or (wire_of p q).place 0) e)));
   }
 
@@ -181,49 +180,50 @@ module _ (p : Plan) (ok : IsAccepted p) (pins : List Pin) (probed : Probed) (sam
       shown_was : (f : Bool) → c.signal ≡ strobe → c.fall ≡ f → is_some old.shown ≡ not f
       shown_was f is fall =
           let own : is_of sample strobe i ≡ true = is_at strobe strobe is in
-          ap is_some (tells.shown ∙ said_before sample set i n closed (is_of sample strobe) (one_of strobe) (says_shown sample) start.shown own (earlier_of sample set i n strobe is))
+          ap (λ (y : Option Shown). is_some y) (tells.shown ∙ said_before sample set i n closed (is_of sample strobe) (one_of strobe) (says_shown sample) start.shown own
+          (earlier_of sample set i n strobe is))
           ∙ fits_here.strobe own ∙ ap not (falls_at f fall)
 
-      fall_is : (x : Signal) (f : Bool) → c.signal ≡ x → c.fall ≡ f → is_fall_of sample data i ≡ (is_same_signal x data && f)
-      fall_is x f is fall = ap (λ b. b && says_fall sample i) (is_at x data is) ∙ ap (λ b. is_same_signal x data && b) (falls_at f fall)
+      fall_is : (x : Signal) (f : Bool) → c.signal ≡ x → c.fall ≡ f → is_fall_of sample data_strobe i ≡ (is_same_signal x data_strobe && f)
+      fall_is x f is fall = ap (λ b. b && says_fall sample i) (is_at x data_strobe is) ∙ ap (λ b. is_same_signal x data_strobe && b) (falls_at f fall)
 
       rise_is : (x : Signal) (f : Bool) → c.signal ≡ x → c.fall ≡ f → is_rise_of sample strobe i ≡ (is_same_signal x strobe && not f)
       rise_is x f is fall = ap (λ b. b && not (says_fall sample i)) (is_at x strobe is) ∙ ap (λ b. is_same_signal x strobe && not b) (falls_at f fall)
 
       abbrev Counted : Type 0
-      Counted = count (is_fall_of sample data) now len + open_cycles start ≡ count (is_rise_of sample strobe) now len + open_cycles new
+      Counted = count (is_fall_of sample data_strobe) now len + open_cycles start ≡ count (is_rise_of sample strobe) now len + open_cycles new
 
       -- neither a fall of DS* nor a rise of AS*
-      neither : is_fall_of sample data i ≡ false → is_rise_of sample strobe i ≡ false → open_cycles new ≡ open_cycles old → Counted
+      neither : is_fall_of sample data_strobe i ≡ false → is_rise_of sample strobe i ≡ false → open_cycles new ≡ open_cycles old → Counted
       neither fall rise same =
           let was = tells.strobed in
-          let a = count_kept sample set i n (is_fall_of sample data) fall in
+          let a = count_kept sample set i n (is_fall_of sample data_strobe) fall in
           let b = count_kept sample set i n (is_rise_of sample strobe) rise in
           omega (arith, was, a, b, same)
 
-      fallen : is_fall_of sample data i ≡ true → is_rise_of sample strobe i ≡ false → open_cycles new ≡ open_cycles old + 1 → Counted
+      fallen : is_fall_of sample data_strobe i ≡ true → is_rise_of sample strobe i ≡ false → open_cycles new ≡ open_cycles old + 1 → Counted
       fallen fall rise more =
           let was = tells.strobed in
-          let a = count_next sample set i n (is_fall_of sample data) fall in
+          let a = count_next sample set i n (is_fall_of sample data_strobe) fall in
           let b = count_kept sample set i n (is_rise_of sample strobe) rise in
           omega (arith, was, a, b, more)
 
-      risen : is_fall_of sample data i ≡ false → is_rise_of sample strobe i ≡ true → open_cycles old ≡ open_cycles new + 1 → Counted
+      risen : is_fall_of sample data_strobe i ≡ false → is_rise_of sample strobe i ≡ true → open_cycles old ≡ open_cycles new + 1 → Counted
       risen fall rise less =
           let was = tells.strobed in
-          let a = count_kept sample set i n (is_fall_of sample data) fall in
+          let a = count_kept sample set i n (is_fall_of sample data_strobe) fall in
           let b = count_next sample set i n (is_rise_of sample strobe) rise in
           omega (arith, was, a, b, less)
 
-      open_as : (s : Option Shown) (d : Bool) (t u : Bool) → is_some s ≡ t → d ≡ u → (if is_some s && d then 1 else 0) ≡ (if t && u then 1 else 0)
-      open_as s d t u a b = ap (λ x. if x && d then 1 else 0) a ∙ ap (λ x. if t && x then 1 else 0) b
+      open_as : (s : Option Shown) (d : Bool) (t u : Bool) → is_some s ≡ t → d ≡ u → one_if (is_some s && d) ≡ one_if (t && u)
+      open_as s d t u a b = ap (λ x. one_if (x && d)) a ∙ ap (λ x. one_if (t && x)) b
 
-      none_open : (s : Option Shown) (d : Bool) → is_some s ≡ false → (if is_some s && d then 1 else 0) ≡ 0
-      none_open s d a = ap (λ x. if x && d then 1 else 0) a
+      none_open : (s : Option Shown) (d : Bool) → is_some s ≡ false → one_if (is_some s && d) ≡ 0
+      none_open s d a = ap (λ x. one_if (x && d)) a
 
-      off_open : (s : Option Shown) (d : Bool) → d ≡ false → (if is_some s && d then 1 else 0) ≡ 0
+      off_open : (s : Option Shown) (d : Bool) → d ≡ false → one_if (is_some s && d) ≡ 0
       off_open None d e = refl
-      off_open (Some x) d e = ap (λ y. if y then 1 else 0) e
+      off_open (Some x) d e = ap one_if e
 
       shown_as : (x : Signal) (f : Bool) → c.signal ≡ x → c.fall ≡ f → new.shown ≡ shown_behind (moved_by p x) f c.value old.shown
       shown_as x f is fall =
@@ -234,10 +234,10 @@ module _ (p : Plan) (ok : IsAccepted p) (pins : List Pin) (probed : Probed) (sam
           makes.behind.strobed ∙ ap (λ y. strobed_behind (moved_by p y) c.fall old.strobed) is ∙ ap (λ y. strobed_behind (moved_by p x) y old.strobed) fall
 
       unchanged : (x : Signal) (f : Bool) → c.signal ≡ x → c.fall ≡ f → shown_behind (moved_by p x) f c.value old.shown ≡ old.shown → strobed_behind (moved_by p x) f old.strobed ≡ old.strobed
-          → (is_same_signal x data && f) ≡ false → (is_same_signal x strobe && not f) ≡ false → Counted
+          → (is_same_signal x data_strobe && f) ≡ false → (is_same_signal x strobe && not f) ≡ false → Counted
       unchanged x f is fall a b d e =
           neither (fall_is x f is fall ∙ d) (rise_is x f is fall ∙ e)
-          (ap (λ y. if is_some y && new.strobed then 1 else 0) (shown_as x f is fall ∙ a) ∙ ap (λ y. if is_some old.shown && y then 1 else 0) (strobed_as x f is fall ∙ b))
+          (ap (λ (y : Option Shown). one_if (is_some y && new.strobed)) (shown_as x f is fall ∙ a) ∙ ap (λ y. one_if (is_some old.shown && y)) (strobed_as x f is fall ∙ b))
 
       by_controller : (x : Signal) (f : Bool) → c.signal ≡ x → c.fall ≡ f → ControllerMakes p probed.version old (moved_by p x) f makes.drivers.controller
       by_controller x f is fall =
@@ -249,17 +249,17 @@ module _ (p : Plan) (ok : IsAccepted p) (pins : List Pin) (probed : Probed) (sam
           subst (λ g. BoardsMake p probed.version old (moved_by p x) g c.value makes.drivers.boards) fall
           (subst (λ y. BoardsMake p probed.version old (moved_by p y) c.fall c.value makes.drivers.boards) is makes.are.boards)
 
-      data_falls : c.signal ≡ data → c.fall ≡ true → Counted
+      data_falls : c.signal ≡ data_strobe → c.fall ≡ true → Counted
       data_falls is fall =
-          let can : can_strobe old ≡ true = able makes.drivers (by_controller data true is fall) makes.some (can_strobe old) (has old.addressers) (by_boards data true is fall) in
+          let can : can_strobe old ≡ true = able makes.drivers (by_controller data_strobe true is fall) makes.some (can_strobe old) (has old.addressers) (by_boards data_strobe true is fall) in
           let fresh : old.strobed ≡ false = not_true old.strobed (and_right (is_some old.shown && not (is_line_left_low old.lines line.Dtack) && not (is_line_left_low old.lines line.Berr))
-              (not old.strobed) can) in
+          (not old.strobed) can) in
           let on : is_some old.shown ≡ true =
           and_left (is_some old.shown) (not (is_line_left_low old.lines line.Dtack))
           (and_left (is_some old.shown && not (is_line_left_low old.lines line.Dtack)) (not (is_line_left_low old.lines line.Berr))
           (and_left (is_some old.shown && not (is_line_left_low old.lines line.Dtack) && not (is_line_left_low old.lines line.Berr)) (not old.strobed) can)) in
-          fallen (fall_is data true is fall) (rise_is data true is fall)
-          (open_as new.shown new.strobed true true (ap is_some (shown_as data true is fall) ∙ on) (strobed_as data true is fall)
+          fallen (fall_is data_strobe true is fall) (rise_is data_strobe true is fall)
+          (open_as new.shown new.strobed true true (ap (λ (y : Option Shown). is_some y) (shown_as data_strobe true is fall) ∙ on) (strobed_as data_strobe true is fall)
           ∙ sym (ap (λ k. k + 1) (open_as old.shown old.strobed true false on fresh)))
 
       strobe_falls : c.signal ≡ strobe → c.fall ≡ true → Counted
@@ -273,13 +273,13 @@ module _ (p : Plan) (ok : IsAccepted p) (pins : List Pin) (probed : Probed) (sam
           let done : old.strobed ≡ true = and_left old.strobed (not (is_line_left_low old.lines line.DataStrobe)) can in
           risen (fall_is strobe false is fall) (rise_is strobe false is fall)
           (open_as old.shown old.strobed true true (shown_was false is fall) done
-          ∙ sym (ap (λ k. k + 1) (none_open new.shown new.strobed (ap is_some (shown_as strobe false is fall)))))
+          ∙ sym (ap (λ k. k + 1) (none_open new.shown new.strobed (ap (λ (y : Option Shown). is_some y) (shown_as strobe false is fall)))))
 
       counted : (x : Signal) (f : Bool) → c.signal ≡ x → c.fall ≡ f → Counted
       counted (signal.Line line.AddressStrobe) true is fall = strobe_falls is fall
       counted (signal.Line line.AddressStrobe) false is fall = strobe_rises is fall
       counted (signal.Line line.DataStrobe) true is fall = data_falls is fall
-      counted (signal.Line line.DataStrobe) false is fall = unchanged data false is fall refl refl refl refl
+      counted (signal.Line line.DataStrobe) false is fall = unchanged data_strobe false is fall refl refl refl refl
       counted (signal.Line (line.Br k)) f is fall = unchanged (signal.Line (line.Br k)) f is fall refl refl refl refl
       counted (signal.Line (line.Irq k)) f is fall = unchanged (signal.Line (line.Irq k)) f is fall refl refl refl refl
       counted (signal.Line line.Bbsy) f is fall = unchanged (signal.Line line.Bbsy) f is fall refl refl refl refl

@@ -217,9 +217,14 @@ makers_step p probed sample known goal put back i some is old new d e puts some_
     kept x =
         let l = above_put goal back put x.set puts.back_near puts.place x.done in
         let m = x.done.above in
-        record { set = x.set; done =
-            record { near = x.done.near; above = omega (arith, m) }; drivers = x.drivers; next = next_kept p probed sample known goal put x.set back i is old new x.drivers puts
-            (omega (arith, l)) x.next }
+        record {
+          set = x.set;
+          done =
+              record { near = x.done.near; above = omega (arith, m) };
+          drivers = x.drivers;
+          next = next_kept p probed sample known goal put x.set back i is old new x.drivers puts
+              (omega (arith, l)) x.next;
+        }
 
     of_controller : (d.controller ≡ true) ⊎ (notes.drivers.controller ≡ true) → (x : DoneSource p probed sample known goal new (back + 1) i) × (x.drivers.controller ≡ true)
     of_controller (inl c) = let x = m.controller c in (kept x.0, x.1)

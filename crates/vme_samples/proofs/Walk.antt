@@ -4,7 +4,7 @@ use Rattle.std.proofs.Common.{◌≡◌, ◌≢◌, ◌⊎◌, ◌∙◌, ◌<�
 use Rattle.std.specs.Prelude.{◌&&◌, not, Option, Some, None, is_some, option_map, nat_le}
 use Rattle.std.specs.List.{slice_get}
 use Rattle.std.specs.Option.{option_and_then, option_map_or}
-use Rattle.std.proofs.Math.Pow.{pow_pos}
+use Rattle.std.proofs.Math.Pow.{pow-lt, pow_pos}
 use Rattle.std.proofs.lemmas.Bool.{cases_lt}
 use Rattle.std.proofs.lemmas.Bool.Decides.{nat_tests}
 use Rattle.std.proofs.lemmas.Option.{slice_get_within}
@@ -46,7 +46,7 @@ use Rattle.vme_standings.proofs.Tests.{both, is_false, never}
 use Rattle.vme_standings.proofs.UnionCovers.{first_covers, second_covers}
 use Rattle.vme_samples.specs.declared.places.Places.{Places}
 use Rattle.vme_samples.specs.declared.samples.SeenChange.{SeenChange}
-use Rattle.vme_samples.specs.Orders.{AreInOrder, AreNamed, IsOrderOf, all_of, set_of}
+use Rattle.vme_samples.specs.Orders.{AreInOrder, AreNamed, CoversHidden, ShowsIn, all_of, set_of}
 use Rattle.vme_samples.specs.Places.{has_place, with, without}
 use Rattle.vme_samples.specs.Samples.{comes_next, is_of}
 use Rattle.vme_samples.specs.Ways.{AreAmong, AreMakers, AreOf, AreWays, Gathered, Hides, Joins, Known, LedTo, Steps, hidden_behind, is_reaching, may_be_last, reaching_at}
@@ -73,12 +73,18 @@ put_back : (set : Places) (i : ℕ) → without (with set i) i ≡ set
 put_back set i = same_places (without (with set i) i) set (omega arith)
 
 module _ (p : Plan) (ok : IsAccepted p) (pins : List Pin) (probed : Probed) (sample : List SeenChange) (start : Standings) (known : Known) (ways : AreWays p probed start sample known) where
+  -- whatever is gathered behind the set, it is something, and covers the bus with the hidden moves
+  abbrev pub GatheredCovers : Places → List Edge → Type 0
+  GatheredCovers set h =
+      (o : Option Standings) → Gathered p probed sample known set (length sample) o
+      → (st : Standings) × (o ≡ Some st) × CoversHidden p pins probed h st
+
   -- ---- one change that is seen
 
   module _ (h : List Edge) (e : Edge) (v : Change) (legal : IsLegal probed.version p (e ∷ h)) (s : seen p pins h e ≡ Some v) (set : Places) (near : set.bits < 2 ^ length sample)
       (fits : AllFit p ok pins probed sample start set) (st : Standings) (at : hidden_behind known set ≡ Some st) (covers : Covers p pins h st)
-    (i : ℕ) (next : comes_next sample set i ≡ true) (c : Change) (is : option_map (λ x. x.change) (slice_get sample i) ≡ Some c) (agree : agrees c v ≡ true) where
-    n : Next sample set i
+      (i : ℕ) (next : comes_next sample set i ≡ true) (c : Change) (is : option_map (λ x. x.change) (slice_get sample i) ≡ Some c) (agree : agrees c v ≡ true) where
+    abbrev pub n : Next sample set i
     n = next_of sample set i next
 
     told : Told p ok pins probed sample start set st
@@ -90,7 +96,7 @@ module _ (p : Plan) (ok : IsAccepted p) (pins : List Pin) (probed : Probed) (sam
         same : (a b : Change) → Some a ≡ Some b → a ≡ b
         same a b x = cc
 
-    abbrev k : Change
+    abbrev pub k : Change
     k = n.seen.change
 
     agreed : agrees k v ≡ true
@@ -127,7 +133,7 @@ module _ (p : Plan) (ok : IsAccepted p) (pins : List Pin) (probed : Probed) (sam
       where
         by_level : (b : Bool) → line_of_history p h wire.AddressStrobe ≡ b → is_some st.shown ≡ b
         by_level true low = covers.shown.low low
-        by_level false high = ap is_some (covers.shown.high high)
+        by_level false high = ap (λ (y : Option Shown). is_some y) (covers.shown.high high)
 
     strobe_turns : k.signal ≡ strobe → is_some st.shown ≡ not k.fall
     strobe_turns on =
@@ -140,7 +146,7 @@ module _ (p : Plan) (ok : IsAccepted p) (pins : List Pin) (probed : Probed) (sam
       wire = λ x q found on. probed_pin q (sym signal_as ∙ ap (λ (y : SeenChange). y.change.signal) (same_seen n.seen x (sym n.at ∙ found)) ∙ on);
       strobe = λ own.
           let on : k.signal ≡ strobe = strobe_is own in
-          ap is_some
+          ap (λ (y : Option Shown). is_some y)
           (sym (said_before sample set i n told.closed (is_of sample strobe)
           (one_of p ok pins probed sample start set i n told.closed st told.tells strobe)
           (says_shown sample) start.shown own (earlier_of sample set i n strobe on)) ∙ sym told.tells.shown)
@@ -175,10 +181,10 @@ module _ (p : Plan) (ok : IsAccepted p) (pins : List Pin) (probed : Probed) (sam
         (somebody d e.driver among, among)
 
     -- some standings, which cover the bus with the edge
-    record Covered (o : Option Standings) : Type 0 where
-      now : Standings
-      is : o ≡ Some now
-      covers : Covers p pins (e ∷ h) now
+    pub record Covered (o : Option Standings) : Type 0 where
+      pub now : Standings
+      pub found : o ≡ Some now
+      pub over : Covers p pins (e ∷ h) now
 
     before_told : BeforeTold p ok pins probed sample start known (with set i)
     before_told j on m x found =
@@ -197,43 +203,48 @@ module _ (p : Plan) (ok : IsAccepted p) (pins : List Pin) (probed : Probed) (sam
       where
         of_steps : (o : Option Standings) → Steps p probed (Some st) (Some n.seen) o → Covered o
         of_steps None cannot = absurd (never (is_nobody cannot.drivers) cannot.nobody (made_by cannot.drivers cannot.are).0)
-        of_steps (Some x) makes = record { now = x; is = refl; covers = (seen_step probed p ok pins h e v legal s st covers k agreed).covers x makes.behind }
+        of_steps (Some x) makes = record { now = x; found = refl; over = (seen_step probed p ok pins h e v legal s st covers k agreed).covers x makes.behind }
 
     gathered_covers : (m : ℕ) → i < m → (new : Option Standings) → Gathered p probed sample known (with set i) m new → Covered new
     gathered_covers zero l new gathered = absurd (omega (arith, l))
-    gathered_covers (suc m) l new (others, one, gathered, led, joins) = by_order (cases_lt i m)
+    gathered_covers (suc m) l new (others, one, gathered, led, joins) = by_order (cases_lt i m) (λ x. gathered_covers m x others gathered)
       where
         kept : (a b : Option Standings) → Joins a b new → Covered a → Covered new
-        kept None b j c = absurd (let x = c.is in cc)
-        kept (Some a) None j c = record { now = c.now; is = j ∙ c.is; covers = c.covers }
+        kept None b j c = absurd (let x = c.found in cc)
+        kept (Some a) None j c = record { now = c.now; found = j ∙ c.found; over = c.over }
         kept (Some a) (Some b) (u, unites, j) c =
             record {
               now = u;
-              is = j;
-              covers = first_covers probed.version p pins ok (e ∷ h) legal a b u unites (subst (Covers p pins (e ∷ h)) (sym (same_known a c.now c.is)) c.covers);
+              found = j;
+              over = first_covers probed.version p pins ok (e ∷ h) legal a b u unites (subst (Covers p pins (e ∷ h)) (sym (same_known a c.now c.found)) c.over);
             }
 
         added : (a b : Option Standings) → Joins a b new → ((x : Standings) → a ≡ Some x → Told p ok pins probed sample start (with set i) x)
             → ((x : Standings) → b ≡ Some x → Told p ok pins probed sample start (with set i) x) → Covered b → Covered new
-        added None b j ta tb c = record { now = c.now; is = j ∙ c.is; covers = c.covers }
-        added (Some a) None j ta tb c = absurd (let x = c.is in cc)
+        added None b j ta tb c = record { now = c.now; found = j ∙ c.found; over = c.over }
+        added (Some a) None j ta tb c = absurd (let x = c.found in cc)
         added (Some a) (Some b) (u, unites, j) ta tb c =
             record {
               now = u;
-              is = j;
-              covers = second_covers probed.version p pins ok (e ∷ h) legal a b u unites
+              found = j;
+              over = second_covers probed.version p pins ok (e ∷ h) legal a b u unites
                   (alike p sample start (with set i) a b (ta a refl).tells (tb b refl).tells)
-                  (subst (Covers p pins (e ∷ h)) (sym (same_known b c.now c.is)) c.covers);
+                  (subst (Covers p pins (e ∷ h)) (sym (same_known b c.now c.found)) c.over);
             }
 
-        by_order : (i < m) ⊎ (m ≤ i) → Covered new
-        by_order (inl x) = kept others one joins (gathered_covers m x others gathered)
-        by_order (inr x) =
+        by_order : (i < m) ⊎ (m ≤ i) → (i < m → Covered others) → Covered new
+        by_order (inl x) rest = kept others one joins (rest x)
+        by_order (inr x) rest =
             let q : m ≡ i = omega (arith, l, x) in
             added others one joins
             (gathered_told p ok pins probed sample start known (with set i) fits_now before_told m others gathered)
             (led_told p ok pins probed sample start known (with set i) fits_now before_told m one led)
             (led_covers one (subst (λ j. LedTo p probed sample known (with set i) j one) q led))
+
+    pub gathered_now : GatheredCovers (with set i) (e ∷ h)
+    gathered_now o gathered =
+        let c = gathered_covers (length sample) (slice_get_within sample i n.seen n.at) o gathered in
+        (c.now, c.found, λ hidden moved. moved_covers p ok probed pins c.now hidden moved (e ∷ h) legal c.over)
 
     pub covered_now : Covered (hidden_behind known (with set i))
     covered_now =
@@ -242,12 +253,12 @@ module _ (p : Plan) (ok : IsAccepted p) (pins : List Pin) (probed : Probed) (sam
         of_hides w.at w.hides (gathered_covers (length sample) (slice_get_within sample i n.seen n.at) w.at w.gathered)
       where
         of_hides : (o : Option Standings) → Hides p probed o (hidden_behind known (with set i)) → Covered o → Covered (hidden_behind known (with set i))
-        of_hides None none c = absurd (let x = c.is in cc)
-        of_hides (Some x) (hidden, moved, found) c =
+        of_hides None none c = absurd (let x = c.found in cc)
+        of_hides (Some x) (hidden, moved, at_last) c =
             record {
               now = hidden;
-              is = found;
-              covers = moved_covers p ok probed pins x hidden moved (e ∷ h) legal (subst (Covers p pins (e ∷ h)) (sym (same_known x c.now c.is)) c.covers);
+              found = at_last;
+              over = moved_covers p ok probed pins x hidden moved (e ∷ h) legal (subst (Covers p pins (e ∷ h)) (sym (same_known x c.now c.found)) c.over);
             }
 
   -- ---- all of them
@@ -273,24 +284,26 @@ module _ (p : Plan) (ok : IsAccepted p) (pins : List Pin) (probed : Probed) (sam
     pub covers : Covers p pins h st
     pub near : (set_of places).bits < 2 ^ length sample
     pub fits : AllFit p ok pins probed sample start (set_of places)
+    pub gathered : 0 < (set_of places).bits → GatheredCovers (set_of places) h
     pub steps : AreStepped places xs
 
-  module _ (probes : AreProbed p pins probed.segments) (g : List Edge) (covers : Covers p pins g start) where
-    none_made : IsLegal probed.version p g → Walked [] g []
-    none_made legal =
+  module _ (probes : AreProbed p pins probed.segments) (g : List Edge) (covers : CoversHidden p pins probed g start) where
+    none_made : Walked [] g []
+    none_made =
         let w = ways.begins in
         record {
           st = w.0;
           at = w.2;
-          covers = moved_covers p ok probed pins start w.0 w.1 g legal covers;
+          covers = covers w.0 w.1;
           near = pow_pos (length sample);
+          gathered = λ pos. absurd (omega (arith, pos));
           fits = λ j on. absurd (never (has_place (set_of []) j) on (none_in (set_of []) refl j));
           steps = tt;
         }
 
     pub walked : (h : List Edge) → IsLegal probed.version p (h ++ g) → (places : List ℕ) (cs : List Change) → AreInOrder sample places cs → AgreeEach cs (sightings p pins g h)
         → Walked places (h ++ g) (sightings p pins g h)
-    walked [] legal [] [] order agree = none_made legal
+    walked [] legal [] [] order agree = none_made
     walked [] legal [] (c ∷ cs) order agree = absurd agree
     walked [] legal (i ∷ places) [] order agree = absurd order
     walked [] legal (i ∷ places) (c ∷ cs) order agree = absurd agree
@@ -309,6 +322,9 @@ module _ (p : Plan) (ok : IsAccepted p) (pins : List Pin) (probed : Probed) (sam
               covers = unseen_covered p ok probed pins m.0 w.st m.1 (h ++ g) probes e legal none w.covers;
               near = w.near;
               fits = w.fits;
+              gathered = λ pos o x.
+                  let y = w.gathered pos o x in
+                  (y.0, y.1, λ hidden moved. unseen_covered p ok probed pins y.0 hidden moved (h ++ g) probes e legal none (y.2 hidden moved));
               steps = w.steps;
             }
         by_sight (Some v) is [] [] order agree before = absurd agree
@@ -320,19 +336,23 @@ module _ (p : Plan) (ok : IsAccepted p) (pins : List Pin) (probed : Probed) (sam
             let now = covered_now (h ++ g) e v legal is (set_of places) w.near w.fits w.st w.at w.covers i order.1 c order.2 agree.0 in
             record {
               st = now.now;
-              at = now.is;
-              covers = now.covers;
+              at = now.found;
+              covers = now.over;
               near = near_now (h ++ g) e v legal is (set_of places) w.near w.fits w.st w.at w.covers i order.1 c order.2 agree.0;
               fits = fits_now (h ++ g) e v legal is (set_of places) w.near w.fits w.st w.at w.covers i order.1 c order.2 agree.0;
-              steps = (w.steps, record {
-                seen = n.seen;
-                found = n.at;
-                next = order.1;
-                near = near_now (h ++ g) e v legal is (set_of places) w.near w.fits w.st w.at w.covers i order.1 c order.2 agree.0;
-                st = w.st;
-                at = w.at;
-                by = made_by (h ++ g) e v legal is (set_of places) w.near w.fits w.st w.at w.covers i order.1 c order.2 agree.0;
-              });
+              gathered = λ pos. gathered_now (h ++ g) e v legal is (set_of places) w.near w.fits w.st w.at w.covers i order.1 c order.2 agree.0;
+              steps = (
+                w.steps,
+                record {
+                  seen = n.seen;
+                  found = n.at;
+                  next = order.1;
+                  near = near_now (h ++ g) e v legal is (set_of places) w.near w.fits w.st w.at w.covers i order.1 c order.2 agree.0;
+                  st = w.st;
+                  at = w.at;
+                  by = made_by (h ++ g) e v legal is (set_of places) w.near w.fits w.st w.at w.covers i order.1 c order.2 agree.0;
+                },
+              );
             }
 
   -- ---- who made them
@@ -357,7 +377,7 @@ module _ (p : Plan) (ok : IsAccepted p) (pins : List Pin) (probed : Probed) (sam
         subst (λ o. AreOf p probed (Some step.st) o a.drivers) step.found
         (subst (λ o. AreOf p probed o (slice_get sample i) a.drivers) step.at
         (a.next.able step.next (both (nat_le (with (set_of places) i).bits goal.bits) (reaching_at makers.reaching (with (set_of places) i))
-            (le (with (set_of places) i).bits goal.bits (within (with (set_of places) i) l)) reaches))) in
+        (le (with (set_of places) i).bits goal.bits (within (with (set_of places) i) l)) reaches))) in
         let m = step.by a.drivers d in
         (among_all a.drivers (by i) a.among x.driver m.1, named places xs rest (a.reaches m.0))
       where
@@ -366,17 +386,24 @@ module _ (p : Plan) (ok : IsAccepted p) (pins : List Pin) (probed : Probed) (sam
 
   -- ---- an order of the whole sample
 
-  module _ (probes : AreProbed p pins probed.segments) (g : List Edge) (covers : Covers p pins g start) (h : List Edge) (legal : IsLegal probed.version p (h ++ g)) (places : List ℕ) (cs : List Change)
-      (order : IsOrderOf sample places cs) (agree : AgreeEach cs (sightings p pins g h)) where
-    walk : Walked places (h ++ g) (sightings p pins g h)
-    walk = walked probes g covers h legal places cs order.ordered agree
+  module _ (probes : AreProbed p pins probed.segments) (g : List Edge) (covers : CoversHidden p pins probed g start) (h : List Edge) (shows : ShowsIn probed.version p pins g h sample) where
+    walk : Walked shows.places (h ++ g) (sightings p pins g h)
+    walk = walked probes g covers h shows.legal shows.places shows.changes shows.order.ordered shows.agree
 
-    whole : set_of places ≡ all_of sample
-    whole = same_places (set_of places) (all_of sample) (all_in (set_of places) (length sample) walk.near order.whole)
+    whole : set_of shows.places ≡ all_of sample
+    whole = same_places (set_of shows.places) (all_of sample) (all_in (set_of shows.places) (length sample) walk.near shows.order.whole)
 
     pub order_reached : (st : Standings) × (hidden_behind known (all_of sample) ≡ Some st) × Covers p pins (h ++ g) st
     order_reached = (walk.st, subst (λ s. hidden_behind known s ≡ Some walk.st) whole walk.at, walk.covers)
 
-    pub order_named : (by : ℕ → Drivers) → AreMakers p probed sample known (all_of sample) by → AreNamed by places (sightings p pins g h)
+    pub order_gathered : 0 < length sample → GatheredCovers (all_of sample) (h ++ g)
+    order_gathered some =
+        let l : 0 < (set_of shows.places).bits = subst (λ (s : Places). 0 < s.bits) (sym whole) (more (length sample) some) in
+        subst (λ s. GatheredCovers s (h ++ g)) whole (walk.gathered l)
+      where
+        more : (n : ℕ) → 0 < n → 0 < 2 ^ n - 1
+        more n l = let m = pow-lt {i = 0} {j = n} l in omega (arith, m)
+
+    pub order_named : (by : ℕ → Drivers) → AreMakers p probed sample known (all_of sample) by → AreNamed by shows.places (sightings p pins g h)
     order_named by makers =
-        named (all_of sample) refl by makers places (sightings p pins g h) walk.steps (subst (λ s. reaching_at makers.reaching s ≡ true) (sym whole) makers.at_goal)
+        named (all_of sample) refl by makers shows.places (sightings p pins g h) walk.steps (subst (λ s. reaching_at makers.reaching s ≡ true) (sym whole) makers.at_goal)

@@ -304,7 +304,7 @@ module _ (version : Version) (p : Plan) (ok : IsAccepted p) (pins : List Pin) (h
           by_requester (Some q) at y =
               ap (λ l. is_asked_above l requests) (same_level q.level (last_granted h) y)
               ∙ four_same (λ m. nat_lt (last_granted h) m && has_bus_level requests m) (λ m. nat_lt (last_granted h) m && request_line p h m)
-                  (λ m few. ap (λ b. nat_lt (last_granted h) m && b) (asked m few))
+              (λ m few. ap (λ b. nat_lt (last_granted h) m && b) (asked m few))
 
       -- while a board holds the bus its first low segment is the controller's exactly if that is low
       head_high : (k x : ℕ) → InPhase p h (Held k x) → 0 < x → (m : ℕ) → m < 4 → drive h Controller (wire.Bg m) ≡ false
@@ -365,10 +365,10 @@ module _ (version : Version) (p : Plan) (ok : IsAccepted p) (pins : List Pin) (h
       due_fall : (fall : Bool) → v.fall ≡ fall → due_now ≡ fall
       due_fall true f =
           (all_passed version p h Controller wire.Bclr true e.value (legal_as (at_head wire.Bclr true e.value)
-              (as_edge e Controller wire.Bclr true clear_is.0 clear_is.1 (way p ok pins h e v s true f))).0).rule
+          (as_edge e Controller wire.Bclr true clear_is.0 clear_is.1 (way p ok pins h e v s true f))).0).rule
       due_fall false f =
           not_true due_now (all_passed version p h Controller wire.Bclr false e.value (legal_as (at_head wire.Bclr false e.value)
-              (as_edge e Controller wire.Bclr false clear_is.0 clear_is.1 (way p ok pins h e v s false f))).0).rule
+          (as_edge e Controller wire.Bclr false clear_is.0 clear_is.1 (way p ok pins h e v s false f))).0).rule
 
       pub cleared_able : are_alike (is_clear_due p requests covers.phase) v.fall ≡ true
       cleared_able = alike due_now (due covers.phase covers.is_in) v.fall (due_fall v.fall refl)

@@ -59,7 +59,7 @@ turn_able version p ok h e m x few old q on (KeptBy k f member l to follows same
     second a b is = grind arith
 turn_able version p ok h e m x few old q on (RunOn f two from follows same i) =
     first (is_two version) (x == 0) (has_phase old (Granting m (end_place p m))) (has_phase old (Expired m x)) (list_any (is_let_go p m x old) (active p (grant_chain m))) two (above x from)
-        (subst (λ r. has_phase old r ≡ true) same on)
+    (subst (λ r. has_phase old r ≡ true) same on)
   where
     above : (x : ℕ) → 0 < x → (x == 0) ≡ false
     above x from = grind (arith, nat_tests)
@@ -68,7 +68,7 @@ turn_able version p ok h e m x few old q on (RunOn f two from follows same i) =
     first a t b c d f g i = grind arith
 turn_able version p ok h e m x few old q on (AllRun two from end same i) =
     first (is_two version) (x == 0) (has_phase old (Granting m (end_place p m))) (has_phase old (Expired m x)) (list_any (is_let_go p m x old) (active p (grant_chain m))) two (above x from)
-        (subst (λ r. has_phase old r ≡ true) same on)
+    (subst (λ r. has_phase old r ≡ true) same on)
   where
     above : (x : ℕ) → 0 < x → (x == 0) ≡ false
     above x from = grind (arith, nat_tests)
@@ -77,7 +77,7 @@ turn_able version p ok h e m x few old q on (AllRun two from end same i) =
     first a t b c d f g i = grind arith
 turn_able version p ok h e m x few old q on (GoneBack f two none follows same i) =
     first (is_two version) (x == 0) (has_phase old (Granting m (end_place p m))) (has_phase old (Expired m x)) (list_any (is_let_go p m x old) (active p (grant_chain m))) two (equal x 0 none)
-        (subst (λ r. has_phase old r ≡ true) same on)
+    (subst (λ r. has_phase old r ≡ true) same on)
   where
     first : (a t b c d : Bool) → a ≡ true → t ≡ true → b ≡ true → ((a && (if t then b else c)) || d) ≡ true
     first a t b c d f g i = grind arith

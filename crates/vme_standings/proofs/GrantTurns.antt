@@ -220,7 +220,7 @@ module _ (version : Version) (p : Plan) (ok : IsAccepted p) (h : List Edge) (s :
           (λ (l : a.waiter ≤ s).
           let own : a.waiter ≡ s = omega (arith, l, from, same) in
           absurd (never (drive h (Slot s) Br) (subst (λ t. drive h (Slot t) Br ≡ true) own a.waits)
-              (not_true (drive h (Slot s) Br) (and_right (grant_in p h (Slot s)) (not (drive h (Slot s) Br)) pass_tests))))
+          (not_true (drive h (Slot s) Br) (and_right (grant_in p h (Slot s)) (not (drive h (Slot s) Br)) pass_tests))))
           (by_order s a.waiter)
         where
           by_order : (a b : ℕ) → (a < b) ⊎ (b ≤ a)

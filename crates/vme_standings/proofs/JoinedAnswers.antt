@@ -274,7 +274,7 @@ module _ (probed : Probed) (p : Plan) (ok : IsAccepted p) (pins : List Pin) (h :
         × Acknowledged boards roak st.requests new → CoversRequests p (e ∷ h) (may_be new)
     requests_after new held (boards, roak, them, are, a) =
         acknowledge_keeps version p pins h e v st.requests new ok legal s covers.requests is fall n shows roak boards are
-            (λ t driver. subst (λ u. has boards u ≡ true) (one_of t driver) (held boards them)) a
+        (λ t driver. subst (λ u. has boards u ≡ true) (one_of t driver) (held boards them)) a
 
   -- by what is known to be shown
   answers : (k : Option Shown) (c : Cycle) → shown p h ≡ Some c → option_map_or (says c) k false ≡ true → (boards : SlotSet) → AnswersShown p st val k boards → has boards who.slot ≡ true

@@ -121,11 +121,11 @@ one_empty p ok x slot none =
     let range = in_range p ok in
     let most = range.most in
     let d = distinct (slots_of p.rows) (Slots p.slots) (each_slot p.rows (IsRowInRange p) (Slots p.slots) range.rows (λ r i. record { from = i.from_one; to = i.to_last }))
-        (λ a w. named_once p ok a w.from w.to) in
+    (λ a w. named_once p ok a w.from w.to) in
     let whole = with_two 0 x (slots_of p.rows) (above x slot) (apart 0 (IsRowInRange p) p.rows range.rows (λ r i. positive r.slot i.from_one))
-        (apart x (IsRowInRange p) p.rows range.rows (λ r i. other r i.alone)) d in
+    (apart x (IsRowInRange p) p.rows range.rows (λ r i. other r i.alone)) d in
     few (length p.rows) (length (slots_of p.rows)) (same_length p.rows) (length-le_from_distinct_below (0 ∷ x ∷ slots_of p.rows) 22 whole
-        (λ q on. near q on (slots_near p.rows p.slots (IsRowInRange p) range.rows (λ r i. i.to_last) q) most))
+    (λ q on. near q on (slots_near p.rows p.slots (IsRowInRange p) range.rows (λ r i. i.to_last) q) most))
   where
     above : (x : ℕ) → is_slot x ≡ true → eqb 0 x ≡ false
     above x e = grind (arith, nat_tests)

@@ -103,7 +103,7 @@ module _ (probed : Probed) (p : Plan) (ok : IsAccepted p) (pins : List Pin) (h :
       phases : (new : Standings) → GrantFalls p version st c place new.phases → (t : ℕ) → place ≡ t → CoversGrants p (e ∷ h) new.phases
       phases new g zero none =
           grant_covers version p ok pins h e v legal s q c place few is at st.phases covers.phases fall none (asked st.lines) (asked_now probed p ok pins h e v legal s st covers) new.phases
-              (g.granted none)
+          (g.granted none)
       phases new g (suc t) own =
           let from : 0 < place = omega (arith, own) in
           pass_covers version p ok pins h e v legal s q c place few is at st.phases covers.phases fall from new.phases (g.passed from)

@@ -31,7 +31,7 @@ module _ (p : Plan) (ok : IsAccepted p) (probed : Probed) (pins : List Pin) (pro
       by_sight : (o : Option Change) → seen p pins (h ++ g) e ≡ o → (cs : List Change) → AgreeEach cs (with_sighting e.driver o (sightings p pins g h)) → (st : Standings)
           → Follows p probed first cs st → HasMoved p probed st last
           → ((ks : List Change) → AgreeEach ks (sightings p pins g h) → (a b : Standings) → Follows p probed first ks a → HasMoved p probed a b → Covers p pins (h ++ g) b)
-              → Covers p pins (e ∷ (h ++ g)) last
+          → Covers p pins (e ∷ (h ++ g)) last
       by_sight None is cs agree st follows moved before =
           unseen_covered p ok probed pins st last moved (h ++ g) probes e legal is (before cs agree st last follows moved)
       by_sight (Some v) is [] agree st follows moved before = absurd agree
@@ -51,7 +51,7 @@ module _ (p : Plan) (ok : IsAccepted p) (probed : Probed) (pins : List Pin) (pro
 
       by_sight : (o : Option Change) → seen p pins (h ++ g) e ≡ o → with_sighting e.driver o (sightings p pins g h) ≡ s ∷ ss
           → (sightings p pins g h ≡ s ∷ ss → AgreeEach (c ∷ cs) (s ∷ ss) → (a b : Standings) → Follows p probed first cs a → HasMoved p probed a b → (x : Drivers) → AreDrivers p probed b c x
-              → Among x s.driver) → Among d s.driver
+          → Among x s.driver) → Among d s.driver
       by_sight None none same before = before same agree st hidden follows moved d drivers
       by_sight (Some v) some same before =
           let both = head_is (record { driver = e.driver; change = v }) (sightings p pins g h) same in

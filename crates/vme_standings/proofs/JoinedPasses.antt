@@ -126,7 +126,7 @@ module _ (probed : Probed) (p : Plan) (ok : IsAccepted p) (pins : List Pin) (h :
       covers = λ new b.
           rest false val fall new b
           (kept_fronts probed p ok pins h e v legal s st covers new.fronts (subst (λ y. FrontsBehind p st y false val new.fronts) m b.fronts) (other wire.AddressStrobe (λ y. cc) (λ y. cc)) (λ y. rise)
-              (λ y. rise))
+          (λ y. rise))
           (requests_stay new.requests (subst (λ y. RequestsBehind p st y false val new.requests) m b.requests));
     }
       where

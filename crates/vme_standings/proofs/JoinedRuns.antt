@@ -146,7 +146,7 @@ module _ (p : Plan) (ok : IsAccepted p) (probed : Probed) (pins : List Pin) (pro
       pulled (few, on, nobody) =
           let f = some_row (pulls_request h n) (IsRowInRange p) p.rows (in_range p ok).rows (sym (are.shared (on_line.Br n) (few_is n few)) ∙ on) in
           never (is_of_level p n f.0.slot) (ap (λ (o : Option Row). option_map_or (requests_on n) o false) f.2.alone ∙ and_left (requests_on n f.0) (drive h (Slot f.0.slot) wire.Br) f.1)
-              (nobody f.0.slot)
+          (nobody f.0.slot)
   runs (Undriven (on_line.Irq n) u) = pulled u
     where
       level_is : (n : ℕ) → 0 < n → n < 8 → is_line (on_line.Irq n) ≡ true
@@ -156,7 +156,7 @@ module _ (p : Plan) (ok : IsAccepted p) (probed : Probed) (pins : List Pin) (pro
       pulled (from, few, on, nobody) =
           let f = some_row (pulls_interrupt h n) (IsRowInRange p) p.rows (in_range p ok).rows (sym (are.shared (on_line.Irq n) (level_is n from few)) ∙ on) in
           never (is_on_level p n f.0.slot) (ap (λ (o : Option Row). option_map_or (interrupts_on n) o false) f.2.alone ∙ and_left (interrupts_on n f.0) (drive h (Slot f.0.slot) wire.Irq) f.1)
-              (nobody f.0.slot)
+          (nobody f.0.slot)
   runs (Undriven on_line.Bbsy u) = absurd u
   runs (Undriven on_line.AddressStrobe u) = absurd u
   runs (Undriven on_line.DataStrobe u) = absurd u
@@ -189,7 +189,7 @@ module _ (p : Plan) (ok : IsAccepted p) (probed : Probed) (pins : List Pin) (pro
         let w = interrupter_in p ok s on in
         known.requests.unknown.high s w.from w.near
         ∙ both (has known.requests.boards s) (not (has known.requests.low s && not (has known.requests.shared s))) (known.requests.boards_are s ∙ any_meant p s on)
-            (by_line (has known.requests.low s) refl)
+        (by_line (has known.requests.low s) refl)
       where
         out : (a b : Bool) → b ≡ true → not (a && not b) ≡ true
         out a b f = grind arith

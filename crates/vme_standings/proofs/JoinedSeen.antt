@@ -183,7 +183,7 @@ module _ (probed : Probed) (p : Plan) (ok : IsAccepted p) (pins : List Pin) (h :
   request_rest : (n : ℕ) (f : Bool) (val : Option Value) → v.signal ≡ signal.Line (on_line.Br n) → v.fall ≡ f → (new : Standings)
       → IsBehind p probed st (record { signal = signal.Line (on_line.Br n); fall = f; value = val }) new
       → new.shown ≡ st.shown → new.strobed ≡ st.strobed → CoversGrants p (e ∷ h) new.phases → new.addressers ≡ st.addressers → new.answerers ≡ st.answerers → new.fronts ≡ st.fronts
-          → new.requests ≡ st.requests → Covers p pins (e ∷ h) new
+      → new.requests ≡ st.requests → Covers p pins (e ∷ h) new
   request_rest n f val is fall new b a1 a2 phases a4 a5 a6 a7 =
       let w = request_wire n is in
       record {
@@ -226,7 +226,7 @@ module _ (probed : Probed) (p : Plan) (ok : IsAccepted p) (pins : List Pin) (h :
   irq_rest : (n : ℕ) (f : Bool) (val : Option Value) → v.signal ≡ signal.Line (on_line.Irq n) → v.fall ≡ f → (new : Standings)
       → IsBehind p probed st (record { signal = signal.Line (on_line.Irq n); fall = f; value = val }) new
       → new.shown ≡ st.shown → new.strobed ≡ st.strobed → new.phases ≡ st.phases → new.addressers ≡ st.addressers → new.answerers ≡ st.answerers → new.fronts ≡ st.fronts
-          → CoversRequests p (e ∷ h) (may_be new.requests) → Covers p pins (e ∷ h) new
+      → CoversRequests p (e ∷ h) (may_be new.requests) → Covers p pins (e ∷ h) new
   irq_rest n f val is fall new b a1 a2 a3 a4 a5 a6 requests =
       let w = irq_wire n is in
       record {
@@ -271,7 +271,7 @@ module _ (probed : Probed) (p : Plan) (ok : IsAccepted p) (pins : List Pin) (h :
   busy_rest : (f : Bool) (val : Option Value) → v.signal ≡ signal.Line on_line.Bbsy → v.fall ≡ f → (new : Standings)
       → IsBehind p probed st (record { signal = signal.Line on_line.Bbsy; fall = f; value = val }) new
       → new.shown ≡ st.shown → new.strobed ≡ st.strobed → CoversGrants p (e ∷ h) new.phases → new.addressers ≡ st.addressers → new.answerers ≡ st.answerers → new.fronts ≡ st.fronts
-          → new.requests ≡ st.requests → Covers p pins (e ∷ h) new
+      → new.requests ≡ st.requests → Covers p pins (e ∷ h) new
   busy_rest f val is fall new b a1 a2 phases a4 a5 a6 a7 =
       let w = busy_wire is in
       record {
@@ -314,7 +314,7 @@ module _ (probed : Probed) (p : Plan) (ok : IsAccepted p) (pins : List Pin) (h :
 
     data_rest : (f : Bool) (val : Option Value) → v.fall ≡ f → (new : Standings) → IsBehind p probed st (record { signal = signal.Line on_line.DataStrobe; fall = f; value = val }) new
         → new.shown ≡ st.shown → KnowsStrobed (e ∷ h) new.strobed → new.phases ≡ st.phases → new.addressers ≡ st.addressers → new.answerers ≡ st.answerers → new.fronts ≡ st.fronts
-            → new.requests ≡ st.requests → Covers p pins (e ∷ h) new
+        → new.requests ≡ st.requests → Covers p pins (e ∷ h) new
     data_rest f val fall new b a1 strobed a3 a4 a5 a6 a7 =
         let w = data_wire in
         record {
@@ -354,12 +354,12 @@ module _ (probed : Probed) (p : Plan) (ok : IsAccepted p) (pins : List Pin) (h :
       strobed_now : KnowsStrobed (e ∷ h) true
       strobed_now t low =
           let by = fall_by version p ok h e legal wire.DataStrobe (λ m. (is_fall_of (Slot m) wire.DataStrobe e ≡ true)
-              × (drive h (Slot m) wire.AddressStrobe ≡ true)) data_falls_from.0 data_falls_from.1
+          × (drive h (Slot m) wire.AddressStrobe ≡ true)) data_falls_from.0 data_falls_from.1
           (λ m driver w f.
           let rule = (passed_as version p h e m wire.DataStrobe true legal driver w f).rule in
           (is_fall m driver w f, and_left (drive h (Slot m) wire.AddressStrobe) (drive h (Slot m) wire.Addr) (and_left _ _ (and_left _ _ (and_left _ _ rule))))) in
           let was : drive h (Slot t) wire.AddressStrobe ≡ true = sym (drive_stays h e (Slot t) wire.AddressStrobe
-              (λ y. absurd (cc (data_wire, same_wire e.wire wire.AddressStrobe (and_left (is_same_wire e.wire wire.AddressStrobe) (is_same_driver e.driver (Slot t)) y))))) ∙ low in
+          (λ y. absurd (cc (data_wire, same_wire e.wire wire.AddressStrobe (and_left (is_same_wire e.wire wire.AddressStrobe) (is_same_driver e.driver (Slot t)) y))))) ∙ low in
           let one = strobe_alone p h (goes version p ok h legal.1) by.slot t by.fact.1 was in
           sym (subst (λ x. has_strobed (e ∷ h) (Slot x) ≡ true) one
           (now (is_fall_of (Slot by.slot) wire.AddressStrobe e) (is_fall_of (Slot by.slot) wire.DataStrobe e) (has_strobed h (Slot by.slot)) (other by.slot) by.fact.0))
@@ -420,7 +420,7 @@ module _ (probed : Probed) (p : Plan) (ok : IsAccepted p) (pins : List Pin) (h :
 
     clear_rest : (f : Bool) (val : Option Value) → v.fall ≡ f → (new : Standings) → IsBehind p probed st (record { signal = signal.Line on_line.Bclr; fall = f; value = val }) new
         → new.shown ≡ st.shown → new.strobed ≡ st.strobed → HasExactly new.phases (λ q. now st.phases q f) → new.addressers ≡ st.addressers → new.answerers ≡ st.answerers → new.fronts ≡ st.fronts
-            → new.requests ≡ st.requests → Covers p pins (e ∷ h) new
+        → new.requests ≡ st.requests → Covers p pins (e ∷ h) new
     clear_rest f val fall new b a1 a2 exact a4 a5 a6 a7 =
         let w = clear_wire in
         record {
@@ -484,7 +484,7 @@ module _ (probed : Probed) (p : Plan) (ok : IsAccepted p) (pins : List Pin) (h :
           driver = by.driver;
           fact = able st.strobed (is_left_low st on_line.DataStrobe) (has st.addressers by.slot) (covers.strobed by.slot by.fact.1 ∙ o.0)
               (covers.levels.shared on_line.DataStrobe refl ∙ is_false (line p h wire.DataStrobe)
-                  (λ low. let t = driven_by version p ok h wire.DataStrobe low in never (drive h (Slot t.0) wire.DataStrobe) t.1 (o.1 t.0)))
+              (λ low. let t = driven_by version p ok h wire.DataStrobe low in never (drive h (Slot t.0) wire.DataStrobe) t.1 (o.1 t.0)))
               (covers.addressers by.slot by.fact.1);
         }
       where
@@ -564,7 +564,7 @@ module _ (probed : Probed) (p : Plan) (ok : IsAccepted p) (pins : List Pin) (h :
 
     pub error_rest : (f : Bool) (val : Option Value) → v.fall ≡ f → (new : Standings) → IsBehind p probed st (record { signal = signal.Line on_line.Berr; fall = f; value = val }) new
         → new.shown ≡ st.shown → new.strobed ≡ st.strobed → new.phases ≡ st.phases → new.addressers ≡ st.addressers → new.answerers ≡ st.answerers → CoversFronts p (e ∷ h) new.fronts
-            → new.requests ≡ st.requests → Covers p pins (e ∷ h) new
+        → new.requests ≡ st.requests → Covers p pins (e ∷ h) new
     error_rest f val fall new b a1 a2 a3 a4 a5 fronts a7 =
         let w = error_now.1 in
         record {

@@ -101,7 +101,7 @@ pub taker_below : (p : Plan) → IsAccepted p → (requests : BusLevels) (phases
 taker_below p ok requests phases s =
     below (is_taken p requests phases)
     (λ t far. ap (λ o. option_map_or (λ q. has_bus_level requests q.level && has_phase phases (Granting q.level (place_before p q.level t))) (option_and_then (λ r. r.requester) o) false)
-        (no_board p ok t far)) s
+    (no_board p ok t far)) s
 
 near_of : (s : ℕ) (o : Option ℕ) → s ≤ 22 → ((t : ℕ) → o ≡ Some t → nat_lt t s ≡ true) → place_of o < 22
 near_of s None near less = omega arith

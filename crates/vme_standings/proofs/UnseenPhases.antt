@@ -137,7 +137,7 @@ module _ (p : Plan) (ok : IsAccepted p) (version : Version) (requests : BusLevel
       (both (c == c) (is_follower p c (place_before p c t) t) (same c)
       (both (is_of_level p c t) (place_before p c t == place_before p c t) (and_left (is_of_level p c t) (is_unseen probed c (place_before p c t)) rises) (same (place_before p c t))))
       (both (is_two version) (is_unseen probed c (place_before p c t)) (and_left (is_two version) (rises_unseen p probed c t) may)
-          (and_right (is_of_level p c t) (is_unseen probed c (place_before p c t)) rises)))
+      (and_right (is_of_level p c t) (is_unseen probed c (place_before p c t)) rises)))
 
   reached_rises : (from : GrantPhases) → Only from → (c : ℕ) → c < 4 → (lasts firsts : SlotSet) → ((t : ℕ) → has lasts t ≡ true → IsReached p version requests probed s (Granting c t))
       → Walks p c (λ t. is_two version && rises_unseen p probed c t) (is_first p version probed c lasts from) firsts → (n t : ℕ) → t < n → has firsts t ≡ true
@@ -146,7 +146,7 @@ module _ (p : Plan) (ok : IsAccepted p) (version : Version) (requests : BusLevel
   reached_rises from only c few lasts firsts granting walks (suc n) t l h =
       ⊎_elim
       (λ first. ⊎_elim (λ row. only (Expired c t) few row) (taken_back c t lasts granting) (or_cases (has (expired_row from c) t)
-          ((is_two version && (is_unseen probed c 0 && has lasts (end_place p c))) && is_follower p c 0 t) first))
+      ((is_two version && (is_unseen probed c 0 && has lasts (end_place p c))) && is_follower p c 0 t) first))
       (λ e.
       let may = and_left (is_two version && rises_unseen p probed c t) (has firsts (place_before p c t)) e in
       risen c t may
@@ -293,7 +293,7 @@ module _ (p : Plan) (version : Version) (requests : BusLevels) (probed : List Sl
       let picked = and_right (t == 0) (is_picked p requests last c) rest in
       let was : is_idle_at from last ≡ true = sym (idle_same new from idle last few) ∙ h in
       let granted : is_granted p requests c from ≡ true = some_level (λ n. is_idle_at from n && is_picked p requests n c) last few
-          (both (is_idle_at from last) (is_picked p requests last c) was picked) in
+      (both (is_idle_at from last) (is_picked p requests last c) was picked) in
       (round.level c (picked_few p requests last c picked)).falls t
       ∙ or_left (is_last p requests probed c from t) (falls_unseen p version probed c t && has (granting_row new c) (place_before p c t))
       (or_true (has (granting_row from c) t) (t == 0 && (is_unseen probed c 0 && is_granted p requests c from))
@@ -436,7 +436,7 @@ round_adds p version requests probed from new round e = by_first (and_cases (ali
     at_three : (alike_at new from 3 && true) ≡ false → idle_count from < idle_count new
     at_three d =
         ⊎_elim (λ here. let x = kept 0 zero_few in let y = kept 1 one_few in let z = kept 2 two_few in let w = more 3 three_few here in omega arith) (λ no. absurd (cc))
-            (and_cases (alike_at new from 3) true d)
+        (and_cases (alike_at new from 3) true d)
 
     at_two : (alike_at new from 2 && (alike_at new from 3 && true)) ≡ false → idle_count from < idle_count new
     at_two d =

@@ -190,4 +190,4 @@ module _ (version : Version) (p : Plan) (ok : IsAccepted p) (pins : List Pin) (h
   strobes old covers s driver wire way =
       let passed = passed_as version p h e s DataStrobe true legal driver wire way in
       covers s (and_left (drive h (Slot s) AddressStrobe) (drive h (Slot s) Addr) (and_left _ (not (line p h Dtack))
-          (and_left _ (not (drive h Controller Berr)) (and_left _ (not (has_strobed h (Slot s))) passed.rule))))
+      (and_left _ (not (drive h Controller Berr)) (and_left _ (not (has_strobed h (Slot s))) passed.rule))))

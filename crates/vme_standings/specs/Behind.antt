@@ -92,7 +92,7 @@ PhasesBehind p version st (moved.Line (line.Br n)) true v new =
     (boards : SlotSet) × AreAskers p n st.phases boards × IsBehindRequest boards st.phases new
 PhasesBehind p version st (moved.Line (line.Br n)) false v new =
     HasExactly new (λ q. (is_two version || is_held_by (is_of_level p n) q)
-        && has_phase st.phases q)
+    && has_phase st.phases q)
 PhasesBehind p version st (moved.Line line.Bbsy) true v new =
     HasExactly new (behind_take p (asked st.lines) st.phases)
 PhasesBehind p version st (moved.Line line.Bbsy) false v new =

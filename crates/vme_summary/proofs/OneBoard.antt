@@ -58,7 +58,7 @@ gives_ends s a h = (at (is_accepted a) a.edge.fall (is_edge_of (Slot s) Bbsy a.e
 
 pub whole : (s : ℕ) (a : Answered) (t : Answers) → length t + 1 < 2 ^ 64
     → board_tally s (a ∷ t) ≡ moved (board_tally s t) (length (a ∷ t)) (falls (Slot s) Br a) (rises (Slot s) Br a) (falls (Slot s) Bbsy a) (rises (Slot s) Bbsy a) (falls (Slot s) AddressStrobe a)
-        (falls (Slot s) Dtack a) (falls (Slot s) Dtack a && delivers a.answer)
+    (falls (Slot s) Dtack a) (falls (Slot s) Dtack a && delivers a.answer)
 whole s a t few =
     let asked = count_after (falls (Slot s) Br) a t few in
     let tenures = count_after (falls (Slot s) Bbsy) a t few in
@@ -96,8 +96,8 @@ own s w fall v k d comes = record { edge = record { driver = Slot s; wire = w; f
 
 after_own : (s : ℕ) (w : Wire) (fall : Bool) (v : Option Cycle) (k : ℕ) (d : Option Delivery) (comes : Event → Bool) (t : Answers) (n : ℕ) → (s == s) ≡ true
     → moved (board_tally s t) n (falls (Slot s) Br (own s w fall v k d comes)) (rises (Slot s) Br (own s w fall v k d comes)) (falls (Slot s) Bbsy (own s w fall v k d comes))
-        (rises (Slot s) Bbsy (own s w fall v k d comes)) (falls (Slot s) AddressStrobe (own s w fall v k d comes)) (falls (Slot s) Dtack (own s w fall v k d comes))
-        (falls (Slot s) Dtack (own s w fall v k d comes) && delivers (Ok d))
+    (rises (Slot s) Bbsy (own s w fall v k d comes)) (falls (Slot s) AddressStrobe (own s w fall v k d comes)) (falls (Slot s) Dtack (own s w fall v k d comes))
+    (falls (Slot s) Dtack (own s w fall v k d comes) && delivers (Ok d))
     ≡ board_after (board_tally s t) w fall n (is_some d)
 after_own s Br true v k d comes t n same = rw same refl
 after_own s Br false v k d comes t n same = rw same refl
@@ -145,7 +145,7 @@ own_moves s a w fall d t few answer driver wire falls_ =
     sym (
     whole s a t few
     ∙ ap (λ n. moved (board_tally s t) n (falls (Slot s) Br a) (rises (Slot s) Br a) (falls (Slot s) Bbsy a) (rises (Slot s) Bbsy a) (falls (Slot s) AddressStrobe a) (falls (Slot s) Dtack a)
-        (falls (Slot s) Dtack a && delivers a.answer)) count
+    (falls (Slot s) Dtack a && delivers a.answer)) count
     ∙ ap (λ x. moved_by s x t) (own_is s a w fall d answer driver wire falls_)
     ∙ after_own s w fall a.edge.value a.rule d a.comes t (length t + 1) same
     )

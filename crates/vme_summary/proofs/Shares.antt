@@ -97,7 +97,7 @@ one_rule true Dtack false = refl
 pub by_one_rule_each : (b : State) (es : List Edge) → sum_by (λ k. passed_by k (answered b es)) (up_to 26) ≡ accepted (answered b es)
 by_one_rule_each = shared (λ k a. is_accepted a && a.rule == k) is_accepted (up_to 26) (λ b e.
     ap (λ n. sum_by (λ k. if is_accepted (answered_edge b e) && n == k then 1 else 0) (up_to 26)) (numbered b.version (readings b.plan b.history e.driver) e.wire e.fall e.value)
-        ∙ one_rule (is_accepted (answered_edge b e)) e.wire e.fall)
+    ∙ one_rule (is_accepted (answered_edge b e)) e.wire e.fall)
 
 -- how many of the refusals that are counted an answer is
 abbrev pub known : List Refused

@@ -121,7 +121,7 @@ all_come n test v m places =
     let k = met_after n m (filter test us) in
     rw (once.is, parted n test v us ws m)
     (one_comes n v m k (met_after n (if test v then met_once n k v else k) (filter test ws)) (test v) places (others_come n test v us m once.before)
-        (others_come n test v ws (if test v then met_once n k v else k) once.past))
+    (others_come n test v ws (if test v then met_once n k v else k) once.past))
 
 or_none : (o : Option ℕ) → option_or o None ≡ o
 or_none None = refl

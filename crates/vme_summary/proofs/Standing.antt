@@ -45,7 +45,7 @@ module _ (b : State) (s : ℕ) where
   at_slot : (d : Driver) (w x : Wire) (f g : Bool) (v : _) → d ≡ Slot s → w ≡ x → f ≡ g → Passed b.version b.plan b.history d w f v → Passed b.version b.plan b.history (Slot s) x g v
   at_slot d w x f g v driver wire fall it =
       subst (λ y. Passed b.version b.plan b.history (Slot s) x y v) fall (subst (λ y. Passed b.version b.plan b.history (Slot s) y f v) wire
-          (subst (λ y. Passed b.version b.plan b.history y w f v) driver it))
+      (subst (λ y. Passed b.version b.plan b.history y w f v) driver it))
 
   module _ (e : Edge) (accepted : is_accepted (answered_edge b e) ≡ true) where
     of_bbsy : (g : Bool) → is_edge_of (Slot s) Bbsy e ≡ true → e.fall ≡ g → Passed b.version b.plan b.history (Slot s) Bbsy g e.value

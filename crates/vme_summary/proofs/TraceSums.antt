@@ -51,7 +51,7 @@ kept_count : (b : State) (t : Printed) (es : List Edge) → accepted (answered_o
 kept_count b t [] = refl
 kept_count b t (e ∷ es) =
     at (is_ok (verdict b e)) (count_step is_accepted (answered_edge b e) t ∙ ap (λ (o : Bool). (if o then 1 else 0) + accepted t) (ok_with (verdict b e) (delivery b.plan b.history e)))
-        (kept_count (after b e) (answered_edge b e ∷ t) es)
+    (kept_count (after b e) (answered_edge b e ∷ t) es)
   where
     at : (o : Bool) → accepted (answered_edge b e ∷ t) ≡ (if o then 1 else 0) + accepted t
         → accepted (answered_on (after b e) (answered_edge b e ∷ t) es) + length (if o then made b e else b).history ≡ accepted (answered_edge b e ∷ t) + length (kept (after b e) es).history

@@ -8,10 +8,10 @@ pub returns-in_err-write_beginning-clause-front : goal.returns-in_err-write_begi
 returns-in_err-write_beginning-clause-front g c =
     on_err c.from_residual.result _
     (front_of_more (g.W.Write.contents c.args.out.now) (g.W.Write.contents c.write_beginning.new.out) (beginning_of c.args.first.now c.args.second.now c.args.found)
-        (found_lines c.args.found) c.in_err-write_beginning.ensures.front)
+    (found_lines c.args.found) c.in_err-write_beginning.ensures.front)
 
 pub returns-clause-front : goal.returns-clause-front
 returns-clause-front g c =
     two_second (g.W.Write.contents c.args.out.now) (g.W.Write.contents c.write_beginning.new.out) (g.W.Write.contents c.write_found.new.out)
-        (beginning_of c.args.first.now c.args.second.now c.args.found) (found_lines c.args.found) c.in_ok-write_beginning.ensures.ok
+    (beginning_of c.args.first.now c.args.second.now c.args.found) (found_lines c.args.found) c.in_ok-write_beginning.ensures.ok
     c.write_found.result c.write_found.ensures.front

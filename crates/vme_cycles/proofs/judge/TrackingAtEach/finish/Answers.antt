@@ -29,6 +29,7 @@ pub returns-clause-ends : goal.returns-clause-ends
 returns-clause-ends g c = λ p v es first known.
     let is = known.1.0 in
     let all = all_last p v es c.args.self.now is _ (c.refused-refused.ensures p v es is) _ (g.W.Write.contents c.write_open.new.out) (g.W.Write.contents c.put.new.out)
-    (c.in_ok-write_open.ensures.ok p v es is) _ (c.as_slice.ensures.value ∙ c.totals_line.ensures) c.in_ok-put.ensures.ok in
-    (ends p v es c.args.self.now first _ _ known (Appends-kept _ (g.W.Write.contents c.put.new.out) _ (last_lines p v es) all c.flush.ensures.kept),
-    c.of_refused.ensures ∙ ap (λ n. status_with n) (c.refused-refused.ensures p v es is))
+    (c.in_ok-write_open.ensures.ok p v es is) _ (c.as_slice.ensures.value ∙ c.totals_line.ensures) c.in_ok-put.ensures.ok in (
+      ends p v es c.args.self.now first _ _ known (Appends-kept _ (g.W.Write.contents c.put.new.out) _ (last_lines p v es) all c.flush.ensures.kept),
+      c.of_refused.ensures ∙ ap (λ n. status_with n) (c.refused-refused.ensures p v es is),
+    )

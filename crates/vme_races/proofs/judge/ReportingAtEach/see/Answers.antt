@@ -12,8 +12,11 @@ pub returns-in_err-write_taken-clause-stops : goal.returns-in_err-write_taken-cl
 returns-in_err-write_taken-clause-stops g c =
     let e = err_from_is_err_and c.from_residual-in_err-write_taken.result c.from_residual-in_err-write_taken.ensures.1 in
     rw (e.1, e.2) (λ p v es first known.
-    inr (c.in_err-write_taken.ensures.fault, next_cut p v es first _ c.args.self.now known c.args.edge.now _ _ c.take_in.new.self
-    (c.in_ok-stop.ensures.line p v es) c.in_err-write_taken.ensures.front))
+    inr (
+      c.in_err-write_taken.ensures.fault,
+      next_cut p v es first _ c.args.self.now known c.args.edge.now _ _ c.take_in.new.self
+          (c.in_ok-stop.ensures.line p v es) c.in_err-write_taken.ensures.front,
+    ))
 
 pub returns-clause-knows : goal.returns-clause-knows
 returns-clause-knows g c = λ p v es first known.
