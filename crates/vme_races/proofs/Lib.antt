@@ -2,9 +2,9 @@
 pub mod Passed
 -- `Recent::push`: the last accepted edges with the next one
 pub mod Pushed
--- `Racing::take_in` and `Reporting::take_edges`: what is kept, with the next edge
+-- `Racing::take_in`: what is kept, with the next edge
 pub mod TakenIn
--- the judge: what is written of a trace
+-- src/judge.rt: what is written of a trace
 pub mod WrittenRaces
 -- src/asked.rt: the line of the edge that is asked for, and the edges that are passed
 pub mod AskedLines
