@@ -1,0 +1,15 @@
+use Rattle.std.proofs.Common.{◌≡◌, Some, rules}
+use Rattle.clap.specs.Words.{found_of, rows_of, subcommand_of}
+use Rattle.vme_command_line.specs.Asked.{texts_of}
+use Rattle.vme_command_line.specs.Commands.{commands as commands_said}
+use Rattle.vme_command_line.proofs.single.asked_of_one.Goals as goal
+
+pub returns-clause-asked : goal.returns-clause-asked
+returns-clause-asked c =
+    let found : subcommand_of commands_said (texts_of c.args.words.now) ≡ Some (c.in-Some.name.now.now, rows_of (found_of c.in-Ok.operands)) = search rules in
+    rw found c.job_of.ensures.asked
+
+pub returns-clause-unfit : goal.returns-clause-unfit
+returns-clause-unfit c =
+    let found : subcommand_of commands_said (texts_of c.args.words.now) ≡ Some (c.in-Some.name.now.now, rows_of (found_of c.in-Ok.operands)) = search rules in
+    rw found c.job_of.ensures.unfit
