@@ -20,7 +20,7 @@ mod traces;
 mod writing;
 
 pub use pairs::{Pair, PairFault, read_pair};
-pub use pieces::{JUDGED_AT_ONCE, buffer_of};
+pub use pieces::{JUDGED_AT_ONCE, buffer_of, has_paused};
 pub use plans::plan_of;
 pub use readings::{Judge, read, read_on};
 pub use reporting::{AtEach, at_each};
