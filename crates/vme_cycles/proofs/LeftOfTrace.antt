@@ -9,7 +9,6 @@ use Rattle.vme_model.specs.Numbered.{Numbered, numbered}
 use Rattle.vme_model.specs.Plan.{Plan}
 use Rattle.vme_model.specs.Text.{Reading, TextFault, read_of}
 use Rattle.vme_trace.specs.declared.Fault.{Fault}
-use Rattle.vme_trace.specs.declared.Fault.TheVariants.{Write}
 use Rattle.vme_trace.specs.Writing.{AppendsFront}
 use Rattle.vme_trace.proofs.WrittenLines.{second_front}
 use Rattle.vme_reading.specs.declared.Status.{Status}

@@ -1,6 +1,6 @@
 -- What is left of a trace without a header line. These are lemmas, which the laws of `Judge` cite:
 -- a law cites what stands in `specs`. They are proved, and no result rests on what they mean.
-use Rattle.std.proofs.Common.{◌≡◌, inl, ℕ, List, [], Option, Some, None, Err, refl, sym, subst}
+use Rattle.std.proofs.Common.{inl, ℕ, List, [], Option, Some, None, Err, refl, sym, subst}
 use Rattle.std.proofs.KnownBytes.{Appends-kept, Appends-nil}
 use Rattle.vme_model.specs.declared.signals.Version.{Version}
 use Rattle.vme_model.specs.declared.signals.Edge.{Edge}
