@@ -126,8 +126,8 @@ pub enum Work<'a> {
         /// Whether it is reported how far the search came.
         progress: bool,
     },
-    /// Say whether a bus that keeps the rules can show what an analyser saw, and who may have driven
-    /// it.
+    /// Say whether a bus that keeps the rules can show what an analyser saw, and who may have
+    /// driven it.
     Probe {
         /// The file of the capture.
         capture: &'a str,
