@@ -19,7 +19,7 @@ use std::alloc::Global;
 use std::io::{Read, Write};
 use thiserror::Error;
 use vme_captures::{CaptureFault, Change, Entry, Reader};
-use vme_reading::{EngineFault, Status, has_paused, plan_of};
+use vme_reading::{EngineFault, Status, TOO_MANY_ORDERS, has_paused, plan_of};
 use vme_samples::SeenChange;
 use vme_slots::Plan;
 use vme_trace::{Fault, flush, read_piece};
@@ -40,7 +40,7 @@ pub enum ProbeFault {
     #[error("{0}")]
     Capture(CaptureFault),
     /// F5: a sample has too many orders: it has more than 12 changes.
-    #[error("F5 too many orders")]
+    #[error("{}", TOO_MANY_ORDERS)]
     TooManyOrders,
 }
 

@@ -41,6 +41,9 @@ pub const READS: u32 = 16_777_216;
 /// that their pieces are short. Of a file the last piece alone is.
 const PIECE: usize = 69_632;
 
+/// F5, as the engines say it that look for an order of edges.
+pub const TOO_MANY_ORDERS: &str = "F5 too many orders";
+
 /// How an engine ended that met no fault.
 #[derive(Clone, Copy, PartialEq, Eq, Debug)]
 pub enum Status {
