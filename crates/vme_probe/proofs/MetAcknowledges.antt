@@ -182,9 +182,9 @@ module _ (p : Plan) (ok : IsAccepted p) (version : Version) (pins : List Pin) (h
 
       pass_met : (k : Option Shown) → ((strobed : line_of p h wire.DataStrobe ≡ true) → option_map_or (says (shows p ok version pins h legal st covers strobed).cycle) k false ≡ true)
           → Tells p ok version pins h legal st covers (holds version p h (Slot (suc t)) (moved.Acknowledge (suc t)) true x) (suc t) (passed_on p st (suc t) k)
-      pass_met None said a = (strobe_met a, λ b. (absurd (nothing_shown None refl said a b), tt))
-      pass_met (Some (known.Access y)) said a = (strobe_met a, λ b. (absurd (nothing_shown (Some (known.Access y)) refl said a b), tt))
-      pass_met (Some (known.Acknowledge n)) said a =
+      pass_met None said = λ a. (strobe_met a, λ b. (absurd (nothing_shown None refl said a b), tt))
+      pass_met (Some (known.Access y)) said = λ a. (strobe_met a, λ b. (absurd (nothing_shown (Some (known.Access y)) refl said a b), tt))
+      pass_met (Some (known.Acknowledge n)) said = λ a.
           let strobed = strobe_holds a in
           let w = shows p ok version pins h legal st covers strobed in
           let is : shown_on p h ≡ Some (cycle.Acknowledge n) = w.shows ∙ ap (λ v. Some v) (ack_shown n w.cycle (said strobed)) in (

@@ -108,7 +108,7 @@ not_zero : (t : ℕ) → (suc t == 0) ≡ false
 not_zero t = grind (arith, nat_tests)
 
 -- who drives the wire of a pin works its chain
-pin_works : (p : Plan) → IsAccepted p → (q : Pin) (t : ℕ) → place_of_pin p ok q ≡ suc t → is_active p.rows q.chain (suc t) ≡ true
+pin_works : (p : Plan) (ok : IsAccepted p) (q : Pin) (t : ℕ) → place_of_pin p ok q ≡ suc t → is_active p.rows q.chain (suc t) ≡ true
 pin_works p ok q t at = probed_works p ok (q ∷ []) q.chain t (there (wire_of p q) (wire_at p ok q ∙ ap (segment_at q.chain) at))
   where
     self : (n : ℕ) → (n == n) ≡ true
@@ -178,7 +178,7 @@ module _ (p : Plan) (version : Version) (pins : List Pin) (st : Standings) where
       by_chain chain.Iack place works has other = acknowledge_told place works fall value d has ok h legal covers other
 
   told : (x : Signal) (fall : Bool) (value : Option Value) (d : Driver) → has_it p (moved_by p x) d ≡ true → AllTold p version pins st x fall value d
-  told (signal.Line l) fall value d has = line_told l fall value d has
+  told (signal.Line l) fall value d has = line_told p version pins st l fall value d has
   told (signal.Pin q) fall value d has = pin_told q fall value d has
 
 pub named_fails : (p : Plan) (probed : Probed) (c : Capture) (st : Standings) (v : Change) (d : Driver) (o : Obstacle) → IsAccepted p → IsKnown p probed c st
