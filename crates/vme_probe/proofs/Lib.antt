@@ -26,6 +26,8 @@ pub mod MetAnswers
 pub mod MetAcknowledges
 -- the condition that is named, and those above it, hold together on no bus: `condition_laws`
 pub mod NeverHolds
+-- each condition in the text of a capture that is impossible: `condition_laws`
+pub mod ToldFailing
 -- what is known of a cycle fits together: `laws`
 pub mod Fitting
 -- the lines of the changes that may come: `answers`

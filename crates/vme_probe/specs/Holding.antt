@@ -2,7 +2,7 @@
 -- edges, and what is true of the condition that is named. (The rules and their conditions are those
 -- of `vme_model`: a condition of a rule holds if it is none of those that fail at the edge. Chapters
 -- 2 to 4.) Lists of edges have the newest first.
-use Rattle.std.specs.Prelude.{◌≡◌, ◌==◌, ◌&&◌, ◌||◌, ◌∷◌, ◌++◌, [], ℕ, zero, suc, Bool, true, false, not, List, Option, Some, None}
+use Rattle.std.specs.Prelude.{◌≡◌, ◌==◌, ◌&&◌, ◌||◌, ◌∷◌, ◌++◌, [], ℕ, zero, suc, Bool, true, false, not, List, Option, Some, None, reverse}
 use Rattle.std.specs.List.{list_all, list_any}
 use Rattle.std.specs.Option.{option_and_then, option_map_or}
 use denote.Enum.Bare.{sameb}
@@ -26,24 +26,30 @@ use Rattle.vme_model.specs.Settling.{unsettled}
 use Rattle.vme_model.specs.Signals.{is_acknowledge, is_same_driver}
 use Rattle.vme_model.specs.Sources.{is_same_condition, rule_of, settling_of}
 use Rattle.vme_captures.specs.declared.signals.Change.{Change}
+use Rattle.vme_captures.specs.declared.signals.Entry.{Entry}
+use Rattle.vme_captures.specs.declared.signals.Entry.TheVariants as entry
 use Rattle.vme_captures.specs.declared.signals.Line.TheVariants as line
 use Rattle.vme_captures.specs.declared.signals.Value.{Value}
 use Rattle.vme_captures.specs.declared.signals.Value.TheVariants as value
 use Rattle.vme_captures.specs.Changes.{is_low}
 use Rattle.vme_captures.specs.Possible.{Capture, Explains}
+use Rattle.vme_captures.specs.Reading.{Reading, capture_of}
 use Rattle.vme_standings.specs.declared.moving.Moved.{Moved}
 use Rattle.vme_standings.specs.declared.moving.Moved.TheVariants as moved
+use Rattle.vme_standings.specs.declared.standings.Drivers.{Drivers}
 use Rattle.vme_standings.specs.declared.standings.Probed.{Probed}
 use Rattle.vme_standings.specs.declared.standings.Standings.{Standings}
-use Rattle.vme_standings.specs.Covers.{AreProbed}
+use Rattle.vme_standings.specs.Covers.{Among, AreProbed}
 use Rattle.vme_standings.specs.Following.{Follows, StartsAs}
 use Rattle.vme_standings.specs.Hidden.{HasMoved}
 use Rattle.vme_standings.specs.Moving.{moved_by}
-use Rattle.vme_standings.specs.Standings.{controller_drives, drives}
+use Rattle.vme_standings.specs.Standings.{Drive, controller_drives, drives}
 use Rattle.vme_probe.specs.declared.demands.Demand.{Demand}
 use Rattle.vme_probe.specs.declared.obstacles.Obstacle.{Obstacle}
 use Rattle.vme_probe.specs.declared.obstacles.Obstacle.TheVariants.{NotLow, Fails, NotPicked, NotHandled, NotServed, OtherLow, NotPending, IsPending, NoAcknowledge, OtherByte}
-use Rattle.vme_probe.specs.Conditions.{demands}
+use Rattle.vme_probe.specs.Conditions.{demands, obstacle}
+use Rattle.vme_probe.specs.Knowing.{no_beginning}
+use Rattle.vme_probe.specs.Stopped.{stopped_text}
 
 -- whether two rules are the same
 abbrev pub is_same_rule : Rule → Rule → Bool
@@ -146,3 +152,25 @@ pub record NeverHolds (p : Plan) (c : Capture) (st : Standings) (v : Change) (d 
   pub is : named.obstacle ≡ o
   pub never : (g h : List Edge) → Explains p c g h → is_low p (h ++ g) v.signal ≡ not v.fall
       → all_hold c.version p (h ++ g) d v (above ++ named ∷ []) ≡ true → ⊥
+
+-- What was read ends at a change that is refused, and the lines of its drivers are those of what is
+-- known before it. Each condition in them is such a condition.
+pub record TellsFailing (p : Plan) (r : Reading) (text : List ℕ) : Type 0 where
+  pub version : Version
+  pub said : List Entry
+  pub change : Change
+  pub others : List Entry
+  pub are : r.entries ≡ reverse said ++ entry.Change change ∷ others
+  pub known : Standings
+  pub moment : ℕ
+  pub drivers : Drivers
+  pub have_it : Drive p change.signal drivers
+  pub lines : List ℕ
+  pub is : text ≡ lines ++ stopped_text p version known moment change drivers
+  pub fail : (d : Driver) (o : Obstacle) → Among drivers d
+      → obstacle p version known change d ≡ Some o
+      → NeverHolds p (capture_of version said) known change d o
+
+-- The head is refused, and no condition is told.
+abbrev pub EndsAtHead : List ℕ → Type 0
+EndsAtHead text = (lines : List ℕ) × (text ≡ lines ++ no_beginning)
