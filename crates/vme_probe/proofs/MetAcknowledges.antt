@@ -1,8 +1,7 @@
 -- The conditions of the pins of the acknowledge chain that hold of a bus are met by what covers it: `condition_laws`.
-use Rattle.std.proofs.Common.{◌≡◌, ◌⊎◌, ◌∙◌, ◌&&◌, ◌||◌, ◌<◌, ◌≤◌, ℕ, zero, suc, Bool, true, false, not, List, [], ◌∷◌, Option, Some, None, refl, sym, ap, subst, ⊎_elim, arith}
+use Rattle.std.proofs.Common.{◌≡◌, ◌⊎◌, ◌∙◌, ◌&&◌, ◌||◌, ◌<◌, ◌≤◌, ℕ, suc, Bool, true, false, not, List, [], ◌∷◌, Option, Some, None, refl, sym, ap, subst, ⊎_elim, arith}
 use Rattle.std.proofs.lemmas.Bool.Decides.{nat_tests}
 use Rattle.std.specs.Prelude.{◌==◌, if◌then◌else◌}
-use Rattle.std.specs.List.{list_any}
 use Rattle.std.specs.Option.{option_map_or}
 use Rattle.vme_model.specs.declared.boards.InterrupterRow.{InterrupterRow}
 use Rattle.vme_model.specs.declared.conditions.Condition.TheVariants.{AcknowledgeInLow, AcknowledgeShown, AddressStrobeHigh, AddressStrobeLow, DataStrobeLow, OwnDtackHigh}
@@ -17,13 +16,13 @@ use Rattle.vme_model.specs.declared.signals.Wire.TheVariants as wire
 use Rattle.vme_model.specs.Accepted.{IsAccepted}
 use Rattle.vme_model.specs.History.{drive, line as line_of, segment, shown as shown_on}
 use Rattle.vme_model.specs.Plan.{Plan, upstream}
-use Rattle.vme_model.specs.Readings.{iack_in, is_pending as is_pending_at, is_served as was_served, readings}
+use Rattle.vme_model.specs.Readings.{iack_in, is_served as was_served, readings}
 use Rattle.vme_model.specs.Rules.{pass_guard}
 use Rattle.vme_model.specs.Signals.{is_acknowledge}
 use Rattle.vme_model.specs.Verdict.{IsLegal}
 use Rattle.vme_model.proofs.Below.{IsBelow}
-use Rattle.vme_model.proofs.Bools.{and_left, and_right, is_false, not_true, same_number}
-use Rattle.vme_model.proofs.CyclePhases.{Answer, Asking, By, CanAnswer, Done, Fresh, Justified, Quiet}
+use Rattle.vme_model.proofs.Bools.{and_left, is_false, not_true, same_number}
+use Rattle.vme_model.proofs.CyclePhases.{Asking, CanAnswer, Done, Fresh, Justified, Quiet}
 use Rattle.vme_model.proofs.Cycles.{Going, chain_below, has_board, interrupts, masters}
 use Rattle.vme_model.proofs.Ranges.{in_range}
 use Rattle.vme_captures.specs.declared.signals.Line.TheVariants as line
@@ -36,14 +35,14 @@ use Rattle.vme_standings.specs.declared.standings.Standings.{Standings}
 use Rattle.vme_standings.specs.Covers.{Covers, says}
 use Rattle.vme_standings.specs.Requests.{is_interrupter, request_by, request_of}
 use Rattle.vme_standings.proofs.JoinedCycle.{driven_by, goes}
-use Rattle.vme_standings.proofs.Tests.{both, never}
+use Rattle.vme_standings.proofs.Tests.{never}
 use Rattle.vme_probe.specs.declared.obstacles.Obstacle.{Obstacle}
 use Rattle.vme_probe.specs.declared.obstacles.Obstacle.TheVariants.{Fails, IsPending}
 use Rattle.vme_probe.specs.Conditions.{acknowledge_moves, chain_rises, is_acknowledge_shown, is_on_level, low, passed_on, start_falls}
 use Rattle.vme_probe.specs.declared.demands.RequestTest.TheVariants.{NotPending as IsNotPending}
 use Rattle.vme_probe.specs.Demands.{interrupter_at, is_pending, on_requests}
 use Rattle.vme_probe.specs.Holding.{edge, holds}
-use Rattle.vme_probe.proofs.LeftBy.{Meets, Tells}
+use Rattle.vme_probe.proofs.LeftBy.{Tells}
 use Rattle.vme_probe.proofs.MetAnswers.{comes, input_low, shows, strobe, told}
 use Rattle.vme_probe.proofs.MetGuards.{met, one_met}
 
@@ -66,7 +65,8 @@ module _ (p : Plan) (ok : IsAccepted p) (version : Version) (pins : List Pin) (h
 
   head_fall : (x : Option Value) → Tells p ok version pins h legal st covers (holds version p h Controller (moved.Acknowledge 0) true x) 0 (start_falls st)
   head_fall x a = (
-    covers.levels.shared line.AddressStrobe refl ∙ and_left (line_of p h wire.AddressStrobe) true (and_left _ true (one_met version p h G5 AddressStrobeLow (edge Controller wire.Iack true None) a refl)),
+    covers.levels.shared line.AddressStrobe refl ∙ and_left (line_of p h wire.AddressStrobe) true
+        (and_left _ true (one_met version p h G5 AddressStrobeLow (edge Controller wire.Iack true None) a refl)),
     λ b.
         let strobed = and_left (line_of p h wire.DataStrobe) true (one_met version p h G5 DataStrobeLow (edge Controller wire.Iack true None) b refl) in
         let w = shows p ok version pins h legal st covers strobed in (
@@ -143,11 +143,13 @@ module _ (p : Plan) (ok : IsAccepted p) (version : Version) (pins : List Pin) (h
         (and_left (not (drive h (Slot (suc t)) wire.Dtack)) true (and_left _ _ (one_met version p h G23 OwnDtackHigh pass b refl)))
 
     -- none but an acknowledge is passed on
-    other_shown : (v : Cycle) (k : Option Shown) → option_map_or (says v) k false ≡ true → is_acknowledge_shown k ≡ false → met AcknowledgeShown (pass_guard (readings p h (Slot (suc t))) (Some v)) ≡ true → ⊥
+    other_shown : (v : Cycle) (k : Option Shown) → option_map_or (says v) k false ≡ true → is_acknowledge_shown k ≡ false
+        → met AcknowledgeShown (pass_guard (readings p h (Slot (suc t))) (Some v)) ≡ true → ⊥
     other_shown (cycle.Acknowledge m) k said none is = never (is_acknowledge_shown k) (known_ack (cycle.Acknowledge m) k said refl) none
     other_shown (cycle.Access y) k said none is = never false is refl
 
-    nothing_shown : (k : Option Shown) → is_acknowledge_shown k ≡ false → ((strobed : line_of p h wire.DataStrobe ≡ true) → option_map_or (says (shows p ok version pins h legal st covers strobed).cycle) k false ≡ true)
+    nothing_shown : (k : Option Shown) → is_acknowledge_shown k ≡ false
+        → ((strobed : line_of p h wire.DataStrobe ≡ true) → option_map_or (says (shows p ok version pins h legal st covers strobed).cycle) k false ≡ true)
         → hold (Fails G23 DataStrobeLow) ≡ true → hold (Fails G23 AcknowledgeShown) ≡ true → ⊥
     nothing_shown k none said a b =
         let w = shows p ok version pins h legal st covers (strobe_holds a) in
@@ -155,7 +157,8 @@ module _ (p : Plan) (ok : IsAccepted p) (version : Version) (pins : List Pin) (h
         (subst (λ v. met AcknowledgeShown (pass_guard (readings p h (Slot (suc t))) v) ≡ true) w.shows (one_met version p h G23 AcknowledgeShown pass b refl))
 
     -- a board that is not pending
-    unpending : (n : ℕ) (i : InterrupterRow) → interrupter_at p (suc t) ≡ Some i → (i.level == n) ≡ true → hold (IsPending n) ≡ true → (u : ℕ) → (not (u == suc t) || not (is_pending (request_of p h u))) ≡ true
+    unpending : (n : ℕ) (i : InterrupterRow) → interrupter_at p (suc t) ≡ Some i → (i.level == n) ≡ true → hold (IsPending n) ≡ true → (u : ℕ)
+        → (not (u == suc t) || not (is_pending (request_of p h u))) ≡ true
     unpending n i found level b u = by_test (u == suc t) refl
       where
         not_both : (l irq served : Bool) → l ≡ true → not ((l && irq) && not served) ≡ true → not (is_pending (request_by irq served)) ≡ true
@@ -216,5 +219,6 @@ module _ (p : Plan) (ok : IsAccepted p) (version : Version) (pins : List Pin) (h
       → Tells p ok version pins h legal st covers (holds version p h (Slot (suc t)) (moved.Acknowledge (suc t)) true x) (suc t) (acknowledge_moves p st (suc t) (suc t) true)
   passes_fall t x member high = rw (not_zero t) (pass_met t x member high st.shown (λ strobed. told p ok version pins h legal st covers strobed))
 
-  pub passes_rise : (t : ℕ) (x : Option Value) → Tells p ok version pins h legal st covers (holds version p h (Slot (suc t)) (moved.Acknowledge (suc t)) false x) (suc t) (acknowledge_moves p st (suc t) (suc t) false)
+  pub passes_rise : (t : ℕ) (x : Option Value) → Tells p ok version pins h legal st covers (holds version p h (Slot (suc t)) (moved.Acknowledge (suc t)) false x) (suc t)
+      (acknowledge_moves p st (suc t) (suc t) false)
   passes_rise t x = rw (not_zero t) (board_rise t x)

@@ -1,7 +1,6 @@
 -- The conditions of the falls of DTACK* and BERR* that hold of a bus are met by what covers it: `condition_laws`.
-use Rattle.std.proofs.Common.{◌≡◌, ◌≢◌, ◌∙◌, ◌&&◌, ◌||◌, ◌<◌, ◌≤◌, ℕ, zero, suc, Bool, true, false, not, List, [], ◌∷◌, Option, Some, None, is_some, refl, sym, ap, subst, arith}
-use Rattle.std.proofs.lemmas.Bool.Decides.{nat_tests}
-use Rattle.std.specs.Prelude.{◌==◌, is_none, nat_le, nat_lt, length, unwrap_or}
+use Rattle.std.proofs.Common.{◌≡◌, ◌∙◌, ◌||◌, ℕ, suc, Bool, true, false, not, List, Option, Some, None, is_some, refl, sym, ap, subst, arith}
+use Rattle.std.specs.Prelude.{◌==◌, is_none, unwrap_or}
 use Rattle.std.specs.Option.{option_and_then, option_map_or}
 use Rattle.vme_model.specs.declared.boards.InterrupterRow.{InterrupterRow}
 use Rattle.vme_model.specs.declared.boards.Row.{Row}
@@ -16,15 +15,15 @@ use Rattle.vme_model.specs.declared.signals.Edge.{Edge}
 use Rattle.vme_model.specs.declared.signals.Version.{Version}
 use Rattle.vme_model.specs.declared.signals.Wire.TheVariants as wire
 use Rattle.vme_model.specs.Accepted.{IsAccepted}
-use Rattle.vme_model.specs.History.{drive, input, is_past_end, line as line_of, segment, shown as shown_on}
+use Rattle.vme_model.specs.History.{drive, line as line_of, segment, shown as shown_on}
 use Rattle.vme_model.specs.Plan.{Plan, board, last_active, upstream}
-use Rattle.vme_model.specs.Readings.{iack_in, is_pending as is_pending_at, readings}
+use Rattle.vme_model.specs.Readings.{iack_in, readings}
 use Rattle.vme_model.specs.Rules.{answer_guard}
 use Rattle.vme_model.specs.Settling.{is_unanswerable}
 use Rattle.vme_model.specs.Signals.{is_acknowledge, is_in_range}
 use Rattle.vme_model.specs.Verdict.{IsLegal}
 use Rattle.vme_model.proofs.Below.{IsBelow, is_below, last_of}
-use Rattle.vme_model.proofs.Bools.{and_left, and_right, is_false, not_true, same_number}
+use Rattle.vme_model.proofs.Bools.{and_left, is_false, not_true, same_number}
 use Rattle.vme_model.proofs.CyclePhases.{Answer, Asking, Done, Error, Fresh, Justified, Quiet, iack_before}
 use Rattle.vme_model.proofs.Cycles.{Going, chain_asks, chain_below, chain_member, cycle_wires, has_board, interrupts, masters, within as chain_within}
 use Rattle.vme_model.proofs.Members.{found_row}
@@ -34,26 +33,24 @@ use Rattle.vme_captures.specs.declared.signals.Pin.{Pin}
 use Rattle.vme_captures.specs.declared.signals.Value.{Value}
 use Rattle.vme_captures.specs.declared.signals.Value.TheVariants as value
 use Rattle.vme_standings.specs.declared.moving.Moved.TheVariants as moved
-use Rattle.vme_standings.specs.declared.requests.Request.{Request}
-use Rattle.vme_standings.specs.declared.requests.Request.TheVariants as request
 use Rattle.vme_standings.specs.declared.standings.Shown.{Shown}
 use Rattle.vme_standings.specs.declared.standings.Shown.TheVariants as known
 use Rattle.vme_standings.specs.declared.standings.Standings.{Standings}
 use Rattle.vme_standings.specs.Covers.{Covers, says}
 use Rattle.vme_standings.specs.Fronts.{input_place, place_of}
 use Rattle.vme_standings.specs.Grants.{are_alike}
-use Rattle.vme_standings.specs.Requests.{is_interrupter, is_on_level, request_of}
+use Rattle.vme_standings.specs.Requests.{is_interrupter, request_of}
 use Rattle.vme_standings.proofs.JoinedCycle.{data_within, driven_by, goes}
 use Rattle.vme_standings.proofs.JoinedErrors.{one_empty}
 use Rattle.vme_standings.proofs.JoinedShows.{Shows, shows_at}
 use Rattle.vme_standings.proofs.RequestRows.{interrupts_there, pending_is}
-use Rattle.vme_standings.proofs.Tests.{both, never}
+use Rattle.vme_standings.proofs.Tests.{never}
 use Rattle.vme_standings.proofs.WhoDrives.{line_shows}
 use Rattle.vme_probe.specs.declared.obstacles.Obstacle.{Obstacle}
-use Rattle.vme_probe.specs.declared.obstacles.Obstacle.TheVariants.{Fails, NoAcknowledge, NotPending, OtherByte}
-use Rattle.vme_probe.specs.Conditions.{access_answered, acknowledge_answered, answer_falls, error_falls, is_slot_shown, line_falls, low, nobody_answers}
+use Rattle.vme_probe.specs.declared.obstacles.Obstacle.TheVariants.{Fails, NotPending, OtherByte}
+use Rattle.vme_probe.specs.Conditions.{acknowledge_answered, answer_falls, is_slot_shown, line_falls, low, nobody_answers}
 use Rattle.vme_probe.specs.Demands.{interrupter_at, is_chain_low, is_pending}
-use Rattle.vme_probe.specs.Holding.{edge, fails, holds}
+use Rattle.vme_probe.specs.Holding.{edge, holds}
 use Rattle.vme_probe.proofs.LeftBy.{Meets, Tells, front, is_segment_of, on_level_of}
 use Rattle.vme_probe.proofs.MetGuards.{met, one_met, one_settles}
 
@@ -152,7 +149,8 @@ module _ (p : Plan) (ok : IsAccepted p) (version : Version) (pins : List Pin) (h
     answering c v = met c (answer_guard (readings p h (Slot s)) v) ≡ true
 
     -- in an access
-    slot_met : (strobed : line_of p h wire.DataStrobe ≡ true) (t : Option ℕ) (v : Cycle) → shown_on p h ≡ Some v → says v (known.Access t) ≡ true → answering OwnSlotShown (Some v) → is_slot_shown st s t ≡ true
+    slot_met : (strobed : line_of p h wire.DataStrobe ≡ true) (t : Option ℕ) (v : Cycle) → shown_on p h ≡ Some v → says v (known.Access t) ≡ true → answering OwnSlotShown (Some v)
+        → is_slot_shown st s t ≡ true
     slot_met strobed t (cycle.Acknowledge m) is said own = absurd (never false said refl)
     slot_met strobed t (cycle.Access y) is said own = by_board (board p s) refl own
       where

@@ -1,5 +1,5 @@
 -- The conditions of the pins of the grant chains that hold of a bus are met by what covers it: `condition_laws`.
-use Rattle.std.proofs.Common.{◌≡◌, ◌⊎◌, ◌∙◌, ◌&&◌, ◌||◌, ◌<◌, ◌≤◌, ℕ, zero, suc, Bool, true, false, not, List, [], ◌∷◌, Option, Some, None, refl, sym, ap, subst, inl, inr, ⊎_elim, arith}
+use Rattle.std.proofs.Common.{◌≡◌, ◌⊎◌, ◌∙◌, ◌&&◌, ◌||◌, ◌<◌, ◌≤◌, ℕ, suc, Bool, true, false, not, List, [], ◌∷◌, Option, None, refl, sym, ap, subst, inl, inr, ⊎_elim, arith}
 use Rattle.std.proofs.lemmas.Bool.{cases_Bool}
 use Rattle.std.proofs.lemmas.Bool.Decides.{nat_tests}
 use Rattle.std.specs.Prelude.{◌==◌, nat_le, nat_lt}
@@ -13,7 +13,7 @@ use Rattle.vme_model.specs.declared.signals.Edge.{Edge}
 use Rattle.vme_model.specs.declared.signals.Version.{Version}
 use Rattle.vme_model.specs.declared.signals.Wire.TheVariants as wire
 use Rattle.vme_model.specs.Accepted.{IsAccepted}
-use Rattle.vme_model.specs.GrantSafety.{IsAwaited, Travels, was_withdrawn}
+use Rattle.vme_model.specs.GrantSafety.{IsAwaited, was_withdrawn}
 use Rattle.vme_model.specs.History.{drive, is_past_end, last_level as last_granted, line as line_of, request_line}
 use Rattle.vme_model.specs.Plan.{Plan, grant_chain, last_active, upstream}
 use Rattle.vme_model.specs.Readings.{grant_in}
@@ -35,24 +35,24 @@ use Rattle.vme_standings.specs.declared.phases.GrantPhase.{GrantPhase}
 use Rattle.vme_standings.specs.declared.phases.GrantPhase.TheVariants.{Idle, Granting, Held, Expired}
 use Rattle.vme_standings.specs.declared.standings.Standings.{Standings}
 use Rattle.vme_standings.specs.Covers.{Covers}
-use Rattle.vme_standings.specs.Cuts.{are_all_high, is_past_all, last_level}
+use Rattle.vme_standings.specs.Cuts.{are_all_high, is_past_all}
 use Rattle.vme_standings.specs.GrantChains.{end_place, is_of_level, place_before}
 use Rattle.vme_standings.specs.Grants.{is_picked}
-use Rattle.vme_standings.specs.InPhase.{InPhase, is_place_low}
-use Rattle.vme_standings.specs.LowSegments.{is_in_run, is_low_in, is_segment}
+use Rattle.vme_standings.specs.InPhase.{InPhase}
+use Rattle.vme_standings.specs.LowSegments.{is_low_in, is_segment}
 use Rattle.vme_standings.specs.Moving.{asked}
-use Rattle.vme_standings.specs.Phases.{is_held, is_held_by}
+use Rattle.vme_standings.specs.Phases.{is_held}
 use Rattle.vme_standings.proofs.GrantEdges.{board_low}
 use Rattle.vme_standings.proofs.GrantOthers.{held_from}
 use Rattle.vme_standings.proofs.GrantPlaces.{IsBefore, before, board_segment, end_last, end_low, end_segment, from_one, place_low}
 use Rattle.vme_standings.proofs.GrantTurns.{expired_two, wanted}
-use Rattle.vme_standings.proofs.PhaseSteps.{equal, idle_in, in_expired, last_few, run, stands_at, under, upto}
-use Rattle.vme_standings.proofs.Tests.{both, never, or_left, or_true}
+use Rattle.vme_standings.proofs.PhaseSteps.{equal, idle_in, last_few, stands_at, under, upto}
+use Rattle.vme_standings.proofs.Tests.{never, or_left, or_true}
 use Rattle.vme_standings.proofs.WhoDrives.{silent_on}
 use Rattle.vme_probe.specs.Conditions.{grant_moves, grant_falls, grant_rises, pass_falls, pass_rises}
 use Rattle.vme_probe.specs.Holding.{edge, fails, holds}
 use Rattle.vme_probe.proofs.LeftBy.{Tells}
-use Rattle.vme_probe.proofs.MetGrants.{asked_now, grants_met, holder_level, input_in}
+use Rattle.vme_probe.proofs.MetGrants.{asked_now, grants_met, input_in}
 use Rattle.vme_probe.proofs.MetGuards.{one_met, one_settles}
 
 -- one that passes, though none does

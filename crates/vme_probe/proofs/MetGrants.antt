@@ -1,6 +1,6 @@
 -- The conditions of BBSY*, BCLR* and the grant chains that hold of a bus are met by what covers it: `condition_laws`.
-use Rattle.std.proofs.Common.{◌≡◌, ◌⊎◌, ◌∙◌, ◌&&◌, ◌||◌, ◌<◌, ◌≤◌, ℕ, zero, suc, Bool, true, false, not, List, [], ◌∷◌, Option, Some, None, is_some, refl, sym, ap, subst, inl, inr, ⊎_elim, arith}
-use Rattle.std.proofs.lemmas.Bool.{and_parts, cases_Bool}
+use Rattle.std.proofs.Common.{◌≡◌, ◌∙◌, ◌&&◌, ◌<◌, ℕ, Bool, true, false, not, List, Option, Some, None, is_some, refl, sym, ap, subst, arith}
+use Rattle.std.proofs.lemmas.Bool.{and_parts}
 use Rattle.std.proofs.lemmas.Bool.Decides.{nat_tests}
 use Rattle.std.specs.Prelude.{◌==◌, nat_le, nat_lt, option_map}
 use Rattle.std.specs.List.{list_all, list_any}
@@ -9,30 +9,25 @@ use Rattle.vme_model.specs.declared.boards.Release.{Release}
 use Rattle.vme_model.specs.declared.boards.Release.TheVariants.{Done, Request}
 use Rattle.vme_model.specs.declared.boards.RequesterRow.{RequesterRow}
 use Rattle.vme_model.specs.declared.boards.Row.{Row}
-use Rattle.vme_model.specs.declared.conditions.Condition.TheVariants.{ArbiterIsPri, Asked, BusyHigh, BusyLow, ClearNotDue, GrantInHigh, GrantInLow, GrantsHigh, GrantsThrough, HigherAsked, OwnBusyHigh, OwnGrantOutHigh, OwnRequestHigh, OwnRequestLow, PassedTheLastBoard}
-use Rattle.vme_model.specs.declared.sentences.Rule.TheVariants.{G1, G2, G3, G4, G11, G12, G13, G14, S3, S4}
-use Rattle.vme_model.specs.declared.sets.BusLevels.{BusLevels}
+use Rattle.vme_model.specs.declared.conditions.Condition.TheVariants.{ArbiterIsPri, Asked, BusyLow, ClearNotDue, GrantInHigh, GrantInLow, GrantsHigh, HigherAsked, OwnGrantOutHigh, OwnRequestLow}
+use Rattle.vme_model.specs.declared.sentences.Rule.TheVariants.{G3, G4, G13, G14}
 use Rattle.vme_model.specs.declared.signals.Driver.TheVariants.{Controller, Slot}
 use Rattle.vme_model.specs.declared.signals.Edge.{Edge}
 use Rattle.vme_model.specs.declared.signals.Version.{Version}
 use Rattle.vme_model.specs.declared.signals.Wire.TheVariants as wire
 use Rattle.vme_model.specs.Accepted.{IsAccepted}
-use Rattle.vme_model.specs.GrantSafety.{IsAwaited, was_withdrawn}
 use Rattle.vme_model.specs.Guards.{free}
-use Rattle.vme_model.specs.History.{drive, is_past_end, last_level as last_granted, line as line_of, request_line}
-use Rattle.vme_model.specs.Plan.{Plan, board, grant_chain, last_active, requests_on, upstream}
+use Rattle.vme_model.specs.History.{drive, last_level as last_granted, line as line_of, request_line}
+use Rattle.vme_model.specs.Plan.{Plan, board, requests_on}
 use Rattle.vme_model.specs.Readings.{grant_in, readings}
-use Rattle.vme_model.specs.Rules.{are_grants_high as all_grants_high, bus_numbers, is_bus_clear_due, is_pri, released}
-use Rattle.vme_model.specs.Settling.{are_grants_through}
+use Rattle.vme_model.specs.Rules.{bus_numbers, is_bus_clear_due, is_pri, released}
 use Rattle.vme_model.specs.Sets.{has_bus_level}
-use Rattle.vme_model.specs.Signals.{is_two}
 use Rattle.vme_model.specs.Verdict.{IsLegal}
-use Rattle.vme_model.proofs.Bools.{and_left, and_right, is_false, not_true, same_number}
-use Rattle.vme_model.proofs.Grants.{as_segment, grant_is, grants_high, holder}
-use Rattle.vme_model.proofs.Members.{HasLevel, found_row, has_board, level_of, member_of, one_chain}
-use Rattle.vme_model.proofs.Picks.{laws_of, one_pick}
+use Rattle.vme_model.proofs.Bools.{and_left, is_false, not_true}
+use Rattle.vme_model.proofs.Grants.{grant_is, grants_high}
+use Rattle.vme_model.proofs.Members.{HasLevel, level_of, one_chain}
 use Rattle.vme_model.proofs.PinSets.{has_bus}
-use Rattle.vme_model.proofs.Ranges.{IsRowInRange, in_range}
+use Rattle.vme_model.proofs.Ranges.{in_range}
 use Rattle.vme_captures.specs.declared.signals.Line.TheVariants as line
 use Rattle.vme_captures.specs.declared.signals.Pin.{Pin}
 use Rattle.vme_captures.specs.declared.signals.Value.{Value}
@@ -42,23 +37,18 @@ use Rattle.vme_standings.specs.declared.phases.GrantPhase.{GrantPhase}
 use Rattle.vme_standings.specs.declared.phases.GrantPhase.TheVariants.{Idle, Granting, Held, Expired}
 use Rattle.vme_standings.specs.declared.standings.Standings.{Standings}
 use Rattle.vme_standings.specs.Covers.{Covers}
-use Rattle.vme_standings.specs.Cuts.{are_all_high, are_grants_high, is_past_all, is_so, last_level}
-use Rattle.vme_standings.specs.declared.cuts.PhaseFact.TheVariants as fact
-use Rattle.vme_standings.specs.GrantChains.{end_place, is_of_level, place_before, requester_at}
-use Rattle.vme_standings.specs.Grants.{is_asked, is_asked_above, is_clear_due, is_picked, may_end}
+use Rattle.vme_standings.specs.Cuts.{are_grants_high, last_level}
+use Rattle.vme_standings.specs.GrantChains.{is_of_level, place_before, requester_at}
+use Rattle.vme_standings.specs.Grants.{is_asked_above, is_clear_due, may_end}
 use Rattle.vme_standings.specs.InPhase.{AreAsked, InPhase, is_place_low}
-use Rattle.vme_standings.specs.LowSegments.{is_low_in, is_segment}
+use Rattle.vme_standings.specs.LowSegments.{is_low_in}
 use Rattle.vme_standings.specs.Moving.{asked}
-use Rattle.vme_standings.specs.Phases.{is_held, is_held_by}
 use Rattle.vme_standings.proofs.GrantEdges.{asks_on, board_low, four_same}
-use Rattle.vme_standings.proofs.GrantOthers.{held_from}
-use Rattle.vme_standings.proofs.GrantPlaces.{before, board_segment, end_last, end_low, end_segment, from_one, has_requester, place_low}
-use Rattle.vme_standings.proofs.GrantTurns.{expired_two, wanted}
-use Rattle.vme_standings.proofs.PhaseSteps.{equal, idle_in, is_upto, last_few, run, stands_at}
-use Rattle.vme_standings.proofs.Tests.{both, never, or_left, or_true}
-use Rattle.vme_standings.proofs.WhoDrives.{line_shows, silent_on}
-use Rattle.vme_probe.specs.declared.obstacles.Obstacle.TheVariants.{Fails}
-use Rattle.vme_probe.specs.Conditions.{busy_falls, busy_rises, clear_falls, clear_rises, grant_falls, grant_rises, line_falls, line_rises, pass_falls, pass_rises}
+use Rattle.vme_standings.proofs.GrantPlaces.{before, board_segment, from_one, place_low}
+use Rattle.vme_standings.proofs.PhaseSteps.{equal, is_upto, last_few, run}
+use Rattle.vme_standings.proofs.Tests.{both, never}
+use Rattle.vme_standings.proofs.WhoDrives.{line_shows}
+use Rattle.vme_probe.specs.Conditions.{busy_falls, busy_rises, clear_falls, clear_rises, line_falls, line_rises}
 use Rattle.vme_probe.specs.Holding.{edge, holds}
 use Rattle.vme_probe.proofs.LeftBy.{Tells}
 use Rattle.vme_probe.proofs.MetGuards.{met, one_met}
@@ -128,7 +118,8 @@ module _ (p : Plan) (ok : IsAccepted p) (version : Version) (pins : List Pin) (h
 
   -- ---- BBSY*
 
-  busy_fall : (s : ℕ) (x : Option Value) (o : Option RequesterRow) → requester_at p s ≡ o → Tells p ok version pins h legal st covers (holds version p h (Slot s) (moved.Line line.Bbsy) true x) s (busy_falls p (asked st.lines) s o)
+  busy_fall : (s : ℕ) (x : Option Value) (o : Option RequesterRow) → requester_at p s ≡ o
+      → Tells p ok version pins h legal st covers (holds version p h (Slot s) (moved.Line line.Bbsy) true x) s (busy_falls p (asked st.lines) s o)
   busy_fall s x None found = tt
   busy_fall s x (Some q) found = λ a. (
     sym (input_in q.level s on) ∙ and_left (grant_in p h (Slot s)) true (and_left _ true (one_met version p h G13 GrantInLow (edge (Slot s) wire.Bbsy true None) a refl)),
@@ -144,7 +135,8 @@ module _ (p : Plan) (ok : IsAccepted p) (version : Version) (pins : List Pin) (h
       on : is_of_level p q.level s ≡ true
       on = of_found p s q found
 
-  busy_rise : (s : ℕ) (x : Option Value) (o : Option RequesterRow) → requester_at p s ≡ o → Tells p ok version pins h legal st covers (holds version p h (Slot s) (moved.Line line.Bbsy) false x) s (busy_rises p (asked st.lines) s o)
+  busy_rise : (s : ℕ) (x : Option Value) (o : Option RequesterRow) → requester_at p s ≡ o
+      → Tells p ok version pins h legal st covers (holds version p h (Slot s) (moved.Line line.Bbsy) false x) s (busy_rises p (asked st.lines) s o)
   busy_rise s x None found = tt
   busy_rise s x (Some q) found = λ a. (
     sym (stands.held s) ∙ a,
@@ -225,7 +217,8 @@ module _ (p : Plan) (ok : IsAccepted p) (version : Version) (pins : List Pin) (h
   due_now (Held k first) i due =
       let a = and_parts (is_pri p.arbiter && option_map_or (λ q. is_asked_above q.level (asked st.lines)) (requester_at p k) false) (nat_lt 0 first) due in
       let b = and_parts (is_pri p.arbiter) (option_map_or (λ q. is_asked_above q.level (asked st.lines)) (requester_at p k) false) a.0 in
-      both _ _ (both _ _ (both _ _ b.0 (line_shows version p ok h legal k wire.Bbsy (i.held k ∙ equal k k refl))) (all_high (head_high (above first a.1)))) (above_asked (requester_at p k) i.granted b.1)
+      both _ _ (both _ _ (both _ _ b.0 (line_shows version p ok h legal k wire.Bbsy (i.held k ∙ equal k k refl))) (all_high (head_high (above first a.1))))
+          (above_asked (requester_at p k) i.granted b.1)
     where
       above : (x : ℕ) → nat_lt 0 x ≡ true → 0 < x
       above x e = grind (arith, nat_tests)

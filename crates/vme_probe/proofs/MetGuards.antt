@@ -1,6 +1,5 @@
 -- What a condition of a rule that holds says of the guard: `condition_laws`.
 use Rattle.std.proofs.Common.{◌≡◌, ◌∙◌, ◌&&◌, ◌||◌, Bool, true, false, not, List, [], ◌∷◌, ◌++◌, refl, sym, ap, arith}
-use Rattle.std.proofs.lemmas.Bool.{and_parts}
 use Rattle.std.specs.Prelude.{if◌then◌else◌}
 use Rattle.std.specs.List.{list_any}
 use Rattle.std.specs.Option.{option_map_or}
@@ -12,7 +11,7 @@ use Rattle.vme_model.specs.Guards.{Guard, free, asks, ◌⊓◌, unless, failed}
 use Rattle.vme_model.specs.Plan.{Plan}
 use Rattle.vme_model.specs.Readings.{readings}
 use Rattle.vme_model.specs.Rules.{failing, guard}
-use Rattle.vme_model.specs.Settling.{settling_guard, unsettled}
+use Rattle.vme_model.specs.Settling.{settling_guard}
 use Rattle.vme_model.specs.Sources.{is_same_condition, rule_of, settling_of}
 use Rattle.vme_probe.specs.Holding.{fails, is_same_rule}
 

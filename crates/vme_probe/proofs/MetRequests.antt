@@ -1,15 +1,12 @@
 -- The conditions of BRn* and IRQn* that hold of a bus are met by what covers it: `condition_laws`.
-use Rattle.std.proofs.Common.{◌≡◌, ◌∙◌, ◌&&◌, ◌||◌, ℕ, Bool, true, false, not, List, [], ◌∷◌, Option, Some, None, refl, sym, ap, subst, inl, inr, arith}
-use Rattle.std.proofs.lemmas.Bool.{and_parts, cases_Bool}
+use Rattle.std.proofs.Common.{◌≡◌, ◌∙◌, ◌&&◌, ◌||◌, ℕ, Bool, true, false, not, List, [], Option, Some, None, refl, sym, ap, subst, inl, inr, arith}
+use Rattle.std.proofs.lemmas.Bool.{cases_Bool}
 use Rattle.std.proofs.lemmas.Bool.Decides.{nat_tests}
 use Rattle.std.specs.Prelude.{◌==◌}
-use Rattle.std.specs.List.{list_any}
 use Rattle.std.specs.Option.{option_and_then, option_map_or}
 use Rattle.vme_model.specs.declared.boards.InterrupterRow.{InterrupterRow}
 use Rattle.vme_model.specs.declared.boards.Row.{Row}
-use Rattle.vme_model.specs.declared.conditions.Condition.{Condition}
 use Rattle.vme_model.specs.declared.conditions.Condition.TheVariants.{OwnBusyHigh, OwnBusyLow}
-use Rattle.vme_model.specs.declared.sentences.Rule.{Rule}
 use Rattle.vme_model.specs.declared.sentences.Rule.TheVariants.{G9, G10}
 use Rattle.vme_model.specs.declared.signals.Driver.TheVariants.{Slot}
 use Rattle.vme_model.specs.declared.signals.Edge.{Edge}
@@ -17,7 +14,7 @@ use Rattle.vme_model.specs.declared.signals.Version.{Version}
 use Rattle.vme_model.specs.declared.signals.Wire.TheVariants as wire
 use Rattle.vme_model.specs.Accepted.{IsAccepted}
 use Rattle.vme_model.specs.History.{drive, pulls_interrupt, served_since_request}
-use Rattle.vme_model.specs.Plan.{Plan, board, interrupts_on}
+use Rattle.vme_model.specs.Plan.{Plan, board}
 use Rattle.vme_model.specs.Readings.{is_served as was_served}
 use Rattle.vme_model.specs.Signals.{is_same_driver, is_two}
 use Rattle.vme_model.specs.Verdict.{IsLegal}
@@ -32,10 +29,10 @@ use Rattle.vme_standings.specs.declared.standings.Standings.{Standings}
 use Rattle.vme_standings.specs.Covers.{Covers}
 use Rattle.vme_standings.specs.Requests.{is_on_level, request_by, request_of}
 use Rattle.vme_standings.proofs.RequestRows.{on_level_is}
-use Rattle.vme_standings.proofs.Tests.{both, is_false, never, or_left, or_true}
+use Rattle.vme_standings.proofs.Tests.{both, is_false, never}
 use Rattle.vme_probe.specs.Conditions.{interrupt_rises, line_falls, line_rises, request_rises}
 use Rattle.vme_probe.specs.Demands.{interrupter_at, is_served, pulls}
-use Rattle.vme_probe.specs.Holding.{edge, fails, holds, is_alone}
+use Rattle.vme_probe.specs.Holding.{edge, holds, is_alone}
 use Rattle.vme_probe.proofs.LeftBy.{Tells}
 use Rattle.vme_probe.proofs.MetGuards.{first_edge, rule_met}
 
@@ -86,7 +83,8 @@ module _ (p : Plan) (ok : IsAccepted p) (version : Version) (pins : List Pin) (h
         by_row : (o : Option InterrupterRow) → o ≡ Some i → option_map_or (λ y. served_since_request p h (Slot s) y.kind) o false ≡ true
         by_row o e = ap (λ k. option_map_or (λ y. served_since_request p h (Slot s) y.kind) k false) e ∙ b
 
-        by_board : (o : Option Row) → option_and_then (λ r. r.interrupter) o ≡ Some i → option_map_or (λ r. option_map_or (λ y. served_since_request p h (Slot s) y.kind) r.interrupter false) o false ≡ true
+        by_board : (o : Option Row) → option_and_then (λ r. r.interrupter) o ≡ Some i
+            → option_map_or (λ r. option_map_or (λ y. served_since_request p h (Slot s) y.kind) r.interrupter false) o false ≡ true
         by_board None e = absurd (cc)
         by_board (Some r) e = by_row r.interrupter e
 
@@ -141,8 +139,10 @@ module _ (p : Plan) (ok : IsAccepted p) (version : Version) (pins : List Pin) (h
   pub requests_fall : (s : ℕ) (x : Option Value) (n : ℕ) → Tells p ok version pins h legal st covers (holds version p h (Slot s) (moved.Line (line.Br n)) true x) s (line_falls p st s (line.Br n) x)
   requests_fall s x n = free_meets n s x
 
-  pub requests_rise : (s : ℕ) (x : Option Value) (n : ℕ) → Tells p ok version pins h legal st covers (holds version p h (Slot s) (moved.Line (line.Br n)) false x) s (line_rises p version st s (line.Br n))
+  pub requests_rise : (s : ℕ) (x : Option Value) (n : ℕ) → Tells p ok version pins h legal st covers (holds version p h (Slot s) (moved.Line (line.Br n)) false x) s
+      (line_rises p version st s (line.Br n))
   requests_rise s x n = held_meets n s x
 
-  pub interrupts_rise : (s : ℕ) (x : Option Value) (n : ℕ) → Tells p ok version pins h legal st covers (holds version p h (Slot s) (moved.Line (line.Irq n)) false x) s (line_rises p version st s (line.Irq n))
+  pub interrupts_rise : (s : ℕ) (x : Option Value) (n : ℕ) → Tells p ok version pins h legal st covers (holds version p h (Slot s) (moved.Line (line.Irq n)) false x) s
+      (line_rises p version st s (line.Irq n))
   interrupts_rise s x n = served_meets n s x

@@ -1,25 +1,22 @@
 -- The conditions of AS*, DS*, and of the rises of DTACK* and BERR*, that hold of a bus are met by what
 -- covers it: `condition_laws`.
-use Rattle.std.proofs.Common.{◌≡◌, ◌∙◌, ◌&&◌, ◌||◌, ◌<◌, ◌≤◌, ℕ, zero, suc, Bool, true, false, not, List, [], ◌∷◌, Option, Some, None, refl, sym, ap, subst, arith}
-use Rattle.std.proofs.lemmas.Bool.{and_parts}
-use Rattle.std.proofs.lemmas.Bool.Decides.{nat_tests}
+use Rattle.std.proofs.Common.{◌≡◌, ◌∙◌, ◌&&◌, ◌||◌, ℕ, zero, suc, Bool, true, false, not, List, [], ◌∷◌, Option, Some, None, refl, sym, ap, subst, arith}
 use Rattle.std.specs.Prelude.{◌==◌}
 use Rattle.std.specs.List.{list_all, list_any}
 use Rattle.vme_model.specs.declared.conditions.Condition.TheVariants.{Answered, BerrHigh, ChainHigh, DataStrobeHigh, DtackHigh, NotStrobed, OwnAddressStrobeLow, OwnBusyLow, OwnDataStrobeHigh, Strobed}
 use Rattle.vme_model.specs.declared.sentences.Rule.TheVariants.{G8, G15, G17, G18, G19, G26, S1}
 use Rattle.vme_model.specs.declared.sets.ChainId.TheVariants as chain
-use Rattle.vme_model.specs.declared.signals.Cycle.{Cycle}
 use Rattle.vme_model.specs.declared.signals.Cycle.TheVariants as cycle
 use Rattle.vme_model.specs.declared.signals.Driver.TheVariants.{Controller, Slot}
 use Rattle.vme_model.specs.declared.signals.Edge.{Edge}
 use Rattle.vme_model.specs.declared.signals.Version.{Version}
 use Rattle.vme_model.specs.declared.signals.Wire.TheVariants as wire
 use Rattle.vme_model.specs.Accepted.{IsAccepted}
-use Rattle.vme_model.specs.History.{drive, has_strobed, line as line_of}
-use Rattle.vme_model.specs.Plan.{Plan, up_to}
+use Rattle.vme_model.specs.History.{drive, line as line_of}
+use Rattle.vme_model.specs.Plan.{Plan}
 use Rattle.vme_model.specs.Settling.{is_chain_clear}
 use Rattle.vme_model.specs.Verdict.{IsLegal}
-use Rattle.vme_model.proofs.Bools.{and_left, and_right, not_true}
+use Rattle.vme_model.proofs.Bools.{and_left, not_true}
 use Rattle.vme_bus.specs.Sets.{has}
 use Rattle.vme_captures.specs.declared.signals.Line.TheVariants as line
 use Rattle.vme_captures.specs.declared.signals.Pin.{Pin}
@@ -73,15 +70,19 @@ module _ (p : Plan) (ok : IsAccepted p) (version : Version) (pins : List Pin) (h
     λ b. (
       ap not (covers.levels.shared line.DataStrobe refl)
       ∙ not_on (line_of p h wire.DataStrobe) (data_high s a (not_true (drive h (Slot s) wire.DataStrobe)
-      (and_left (not (drive h (Slot s) wire.DataStrobe)) true (rule_met version p h G19 OwnDataStrobeHigh (edge (Slot s) wire.Addr false (cycle_seen x)) (first_edge version p h G19 OwnDataStrobeHigh (edge (Slot s) wire.Addr false (cycle_seen x)) (edge (Slot s) wire.AddressStrobe false None ∷ []) b) refl)))),
-      λ c. (covers.strobed s a ∙ rule_met version p h G19 Strobed (edge (Slot s) wire.Addr false (cycle_seen x)) (first_edge version p h G19 Strobed (edge (Slot s) wire.Addr false (cycle_seen x)) (edge (Slot s) wire.AddressStrobe false None ∷ []) c) refl, tt),
+      (and_left (not (drive h (Slot s) wire.DataStrobe)) true
+          (rule_met version p h G19 OwnDataStrobeHigh (edge (Slot s) wire.Addr false (cycle_seen x))
+              (first_edge version p h G19 OwnDataStrobeHigh (edge (Slot s) wire.Addr false (cycle_seen x)) (edge (Slot s) wire.AddressStrobe false None ∷ []) b) refl)))),
+      λ c. (covers.strobed s a ∙ rule_met version p h G19 Strobed (edge (Slot s) wire.Addr false (cycle_seen x))
+          (first_edge version p h G19 Strobed (edge (Slot s) wire.Addr false (cycle_seen x)) (edge (Slot s) wire.AddressStrobe false None ∷ []) c) refl, tt),
     ),
   )
 
   -- no probed segment of a clear chain is low
   clear_high : is_chain_clear p h chain.Iack ≡ true → is_chain_high st ≡ true
   clear_high clear = none_any (λ place. has st.low.acknowledge place) places
-      (both (not (has st.low.acknowledge 0)) _ (not_on (has st.low.acknowledge 0) (high 0)) (all_below (λ k. not (has st.low.acknowledge k)) 21 (λ k from to. not_on (has st.low.acknowledge k) (high k))))
+      (both (not (has st.low.acknowledge 0)) _ (not_on (has st.low.acknowledge 0) (high 0))
+          (all_below (λ k. not (has st.low.acknowledge k)) 21 (λ k from to. not_on (has st.low.acknowledge k) (high k))))
     where
       off_right : (a b : Bool) → b ≡ false → (a && b) ≡ false
       off_right a b e = grind arith
@@ -161,16 +162,19 @@ module _ (p : Plan) (ok : IsAccepted p) (version : Version) (pins : List Pin) (h
 
   -- ---- all of them
 
-  pub addresses_fall : (s : ℕ) (x : Option Value) → Tells p ok version pins h legal st covers (holds version p h (Slot s) (moved.Line line.AddressStrobe) true x) s (line_falls p st s line.AddressStrobe x)
+  pub addresses_fall : (s : ℕ) (x : Option Value) → Tells p ok version pins h legal st covers (holds version p h (Slot s) (moved.Line line.AddressStrobe) true x) s
+      (line_falls p st s line.AddressStrobe x)
   addresses_fall s x = address_fall s x
 
-  pub addresses_rise : (s : ℕ) (x : Option Value) → Tells p ok version pins h legal st covers (holds version p h (Slot s) (moved.Line line.AddressStrobe) false x) s (line_rises p version st s line.AddressStrobe)
+  pub addresses_rise : (s : ℕ) (x : Option Value) → Tells p ok version pins h legal st covers (holds version p h (Slot s) (moved.Line line.AddressStrobe) false x) s
+      (line_rises p version st s line.AddressStrobe)
   addresses_rise s x = address_rise s x
 
   pub strobes_fall : (s : ℕ) (x : Option Value) → Tells p ok version pins h legal st covers (holds version p h (Slot s) (moved.Line line.DataStrobe) true x) s (line_falls p st s line.DataStrobe x)
   strobes_fall s x = data_fall s x
 
-  pub strobes_rise : (s : ℕ) (x : Option Value) → Tells p ok version pins h legal st covers (holds version p h (Slot s) (moved.Line line.DataStrobe) false x) s (line_rises p version st s line.DataStrobe)
+  pub strobes_rise : (s : ℕ) (x : Option Value) → Tells p ok version pins h legal st covers (holds version p h (Slot s) (moved.Line line.DataStrobe) false x) s
+      (line_rises p version st s line.DataStrobe)
   strobes_rise s x = data_rise s x
 
   pub answers_rise : (s : ℕ) (x : Option Value) → Tells p ok version pins h legal st covers (holds version p h (Slot s) (moved.Line line.Dtack) false x) s (line_rises p version st s line.Dtack)

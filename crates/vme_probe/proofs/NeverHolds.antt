@@ -2,7 +2,6 @@
 use Rattle.std.proofs.Common.{◌≡◌, ◌∙◌, ◌++◌, ◌∷◌, ◌<◌, [], ℕ, zero, suc, Bool, true, false, not, List, Option, Some, None, is_some, refl, sym, ap, subst, arith}
 use Rattle.std.proofs.lemmas.Bool.Decides.{nat_tests}
 use Rattle.std.specs.Prelude.{◌==◌, if◌then◌else◌, nat_lt}
-use Rattle.std.specs.List.{list_all}
 use Rattle.vme_model.specs.declared.sets.ChainId.{ChainId}
 use Rattle.vme_model.specs.declared.sets.ChainId.TheVariants as chain
 use Rattle.vme_model.specs.declared.signals.Driver.{Driver}
@@ -42,7 +41,7 @@ use Rattle.vme_probe.specs.declared.obstacles.Obstacle.{Obstacle}
 use Rattle.vme_probe.specs.Conditions.{acknowledge_moves, grant_moves, moves, obstacle}
 use Rattle.vme_probe.specs.Demands.{is_left}
 use Rattle.vme_probe.specs.Holding.{IsKnown, NeverHolds, has_it, holds}
-use Rattle.vme_probe.proofs.LeftBy.{IsFirst, Tells, first_is, never_first}
+use Rattle.vme_probe.proofs.LeftBy.{Tells, first_is, never_first}
 use Rattle.vme_probe.proofs.MetGrants.{busies_fall, busies_rise, clear_fall, clear_rise}
 use Rattle.vme_probe.proofs.MetStrobes.{addresses_fall, addresses_rise, answers_rise, error_rise, strobes_fall, strobes_rise}
 use Rattle.vme_probe.proofs.MetAcknowledges.{passes_fall, passes_rise, starts_fall, starts_rise}
@@ -146,9 +145,11 @@ module _ (p : Plan) (version : Version) (pins : List Pin) (st : Standings) where
       by_slot s is =
           subst (λ y. Tells p ok version pins h legal st covers (holds version p h (Slot y) (moved.Grant c (suc t)) fall value) y (grant_moves p version st y c (suc t) fall)) (sym is) (by_way fall)
 
-  acknowledge_told : (place : ℕ) → ((t : ℕ) → place ≡ suc t → is_active p.rows chain.Iack (suc t) ≡ true) → (fall : Bool) (value : Option Value) (d : Driver) → has_it p (moved.Acknowledge place) d ≡ true
+  acknowledge_told : (place : ℕ) → ((t : ℕ) → place ≡ suc t → is_active p.rows chain.Iack (suc t) ≡ true) → (fall : Bool) (value : Option Value) (d : Driver)
+      → has_it p (moved.Acknowledge place) d ≡ true
       → (ok : IsAccepted p) (h : List Edge) (legal : IsLegal version p h) (covers : Covers p pins h st) → is_segment_low h chain.Iack place ≡ not fall
-      → Tells p ok version pins h legal st covers (holds version p h d (moved.Acknowledge place) fall value) (driver_number d) (moves p version st (driver_number d) (moved.Acknowledge place) fall value)
+      → Tells p ok version pins h legal st covers (holds version p h d (moved.Acknowledge place) fall value) (driver_number d)
+          (moves p version st (driver_number d) (moved.Acknowledge place) fall value)
   acknowledge_told zero works true value Controller has ok h legal covers other = starts_fall p ok version pins h legal st covers value
   acknowledge_told zero works false value Controller has ok h legal covers other = starts_rise p ok version pins h legal st covers value
   acknowledge_told (suc t) works fall value Controller has ok h legal covers other = absurd (never (suc t == 0) has (not_zero t))
@@ -162,7 +163,8 @@ module _ (p : Plan) (version : Version) (pins : List Pin) (st : Standings) where
 
       by_slot : (s : ℕ) → s ≡ suc t → Tells p ok version pins h legal st covers (holds version p h (Slot s) (moved.Acknowledge (suc t)) fall value) s (acknowledge_moves p st s (suc t) fall)
       by_slot s is =
-          subst (λ y. Tells p ok version pins h legal st covers (holds version p h (Slot y) (moved.Acknowledge (suc t)) fall value) y (acknowledge_moves p st y (suc t) fall)) (sym is) (by_way fall other)
+          subst (λ y. Tells p ok version pins h legal st covers (holds version p h (Slot y) (moved.Acknowledge (suc t)) fall value) y (acknowledge_moves p st y (suc t) fall)) (sym is)
+              (by_way fall other)
 
   -- a pin
   pin_told : (q : Pin) (fall : Bool) (value : Option Value) (d : Driver) → has_it p (moved_by p (signal.Pin q)) d ≡ true → AllTold p version pins st (signal.Pin q) fall value d
@@ -170,7 +172,8 @@ module _ (p : Plan) (version : Version) (pins : List Pin) (st : Standings) where
       by_chain q.chain (place_of_pin p ok q) (λ t at. pin_works p ok q t at) has (subst (λ (g : Segment). segment h g.chain g.place ≡ not fall) (wire_at p ok q) other)
     where
       by_chain : (k : ChainId) (place : ℕ) → ((t : ℕ) → place ≡ suc t → is_active p.rows k (suc t) ≡ true) → has_it p (segment_moved k place) d ≡ true → is_segment_low h k place ≡ not fall
-          → Tells p ok version pins h legal st covers (holds version p h d (segment_moved k place) fall value) (driver_number d) (moves p version st (driver_number d) (segment_moved k place) fall value)
+          → Tells p ok version pins h legal st covers (holds version p h d (segment_moved k place) fall value) (driver_number d)
+              (moves p version st (driver_number d) (segment_moved k place) fall value)
       by_chain chain.Bg0 place works has other = grant_told 0 place (omega arith) works fall value d has ok h legal covers
       by_chain chain.Bg1 place works has other = grant_told 1 place (omega arith) works fall value d has ok h legal covers
       by_chain chain.Bg2 place works has other = grant_told 2 place (omega arith) works fall value d has ok h legal covers

@@ -1,5 +1,5 @@
 -- Each condition in the text of a capture that is impossible is one that holds on no bus: `condition_laws`.
-use Rattle.std.proofs.Common.{◌≡◌, ◌⊎◌, ◌∙◌, ◌++◌, ◌∷◌, [], ℕ, true, false, List, Option, Some, None, Ok, reverse, refl, sym, ap, subst, inl, inr, append-nil}
+use Rattle.std.proofs.Common.{◌≡◌, ◌⊎◌, ◌∙◌, ◌++◌, ◌∷◌, [], ℕ, true, List, Option, Some, None, Ok, reverse, refl, sym, ap, subst, inl, inr}
 use Rattle.std.proofs.lemmas.List.{reverse-append, reverse-reverse}
 use Rattle.vme_model.specs.declared.signals.Driver.{Driver}
 use Rattle.vme_model.specs.declared.signals.Driver.TheVariants.{Controller, Slot}
@@ -21,7 +21,7 @@ use Rattle.vme_standings.specs.Standings.{Drive}
 use Rattle.vme_samples.specs.declared.samples.SeenChange.{SeenChange}
 use Rattle.vme_probe.specs.declared.judging.Known.{Known}
 use Rattle.vme_probe.specs.Holding.{EndsAtHead, IsKnown, TellsFailing, has_it}
-use Rattle.vme_probe.specs.Knowing.{IsStoppedAtEnd, IsUnbegun, Judged, Stops, StopsAt, StopsSample, seen_at}
+use Rattle.vme_probe.specs.Knowing.{IsStoppedAtEnd, IsUnbegun, Judged, StopsAt, StopsSample, seen_at}
 use Rattle.vme_probe.specs.Probing.{IsImpossibleAtEnd, Probes, StopsIn}
 use Rattle.vme_probe.specs.Stopped.{stopped_text}
 use Rattle.vme_probe.proofs.NeverHolds.{named_fails}
@@ -54,7 +54,8 @@ among_has p c drivers are Controller is = sym are.controller ∙ is
 among_has p c drivers are (Slot s) is = sym (are.boards s) ∙ is
 
 module _ (p : Plan) (ok : IsAccepted p) where
-  is_known : (v : Version) (said : List Entry) (old : Known) (t : Tied p ok v said old) (hidden : Standings) → HasMoved p old.probed old.standings hidden → IsKnown p t.probed (capture_of v said) hidden
+  is_known : (v : Version) (said : List Entry) (old : Known) (t : Tied p ok v said old) (hidden : Standings) → HasMoved p old.probed old.standings hidden
+      → IsKnown p t.probed (capture_of v said) hidden
   is_known v said old t hidden moved = record {
     version = t.version;
     probes = t.probes;

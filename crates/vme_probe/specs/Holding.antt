@@ -1,7 +1,7 @@
--- When a condition of a change holds of a driver on a bus, by looking back through the bus's list of
+-- When a condition of a change holds of a driver on a bus, by looking back through its list of
 -- edges, and what is true of the condition that is named. (The rules and their conditions are those
--- of `vme_model`: a condition of a rule holds if it is none of those that fail at the edge. Chapters
--- 2 to 4.) Lists of edges have the newest first.
+-- of `vme_model`: a condition of a rule holds if it is none of those that fail at the edge.
+-- Chapters 2 to 4.) Lists of edges have the newest first.
 use Rattle.std.specs.Prelude.{◌≡◌, ◌==◌, ◌&&◌, ◌||◌, ◌∷◌, ◌++◌, [], ℕ, zero, suc, Bool, true, false, not, List, Option, Some, None, reverse}
 use Rattle.std.specs.List.{list_all, list_any}
 use Rattle.std.specs.Option.{option_and_then, option_map_or}
@@ -104,7 +104,8 @@ is_alone p h d n =
     not (list_any (λ r. pulls_interrupt h n r && not (is_same_driver d (Slot r.slot))) p.rows)
 
 -- the condition holds of the driver
-abbrev pub holds : Version → Plan → List Edge → Driver → Moved → Bool → Option Value → Obstacle → Bool
+abbrev pub holds :
+    Version → Plan → List Edge → Driver → Moved → Bool → Option Value → Obstacle → Bool
 holds version p h d m fall x (NotLow w) = drive h d w
 holds version p h d m fall x (Fails r c) =
     not (list_any (fails version p h r c) (edges d m fall x))
@@ -141,10 +142,12 @@ pub record IsKnown (p : Plan) (probed : Probed) (c : Capture) (last : Standings)
   pub follows : Follows p probed first c.changes behind
   pub hidden : HasMoved p probed behind last
 
--- The condition is one of the change's for the driver. Together with those above it, it holds of the
--- driver on no bus that keeps the rules, shows the capture, and has the line or pin of the change at
--- its other level.
-pub record NeverHolds (p : Plan) (c : Capture) (st : Standings) (v : Change) (d : Driver) (o : Obstacle) : Type 0 where
+-- The condition is one of the change's for the driver. Together with those above it, it holds of
+-- the driver on no bus that keeps the rules and shows the capture, and on which the line or pin of
+-- the change is at the other level.
+pub record NeverHolds
+    (p : Plan) (c : Capture) (st : Standings) (v : Change) (d : Driver) (o : Obstacle)
+    : Type 0 where
   pub above : List Demand
   pub named : Demand
   pub below : List Demand

@@ -25,8 +25,8 @@ ghost use Rattle.vme_standings.specs.declared.standings.Standings.{Standings};
 /// level.
 ///
 /// So it is for each condition that is printed. If a capture is impossible at a change, each
-/// condition in the lines of the change is such a condition. If its head is refused, no condition is
-/// printed. Each change is a sample of its own here.
+/// condition in the lines of the change is such a condition. If its head is refused, no condition
+/// is printed. Each change is a sample of its own here.
 pub fn what_is_named_fails()
     ensures named { (p : Plan) (probed : Probed) (c : Capture) (last : Standings) (v : Change)
         (d : Driver) (o : Obstacle) → IsAccepted p → IsKnown p probed c last
