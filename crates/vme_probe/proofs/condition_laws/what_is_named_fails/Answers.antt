@@ -1,4 +1,3 @@
-use Rattle.std.proofs.Common.{◌≡◌}
 use Rattle.vme_probe.proofs.condition_laws.what_is_named_fails.Goals as goal
 use Rattle.vme_probe.proofs.NeverHolds.{named_fails}
 use Rattle.vme_probe.proofs.ToldFailing.{printed_fails}
