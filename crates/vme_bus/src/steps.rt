@@ -14,7 +14,7 @@ use crate::states::BusState;
 use vme_model::{Delivery, Driver, Edge, Refused, Wire};
 
 /// The arm of a wire's fall or that of its rise.
-macro_rules! by_direction {
+macro_rules! by_fall {
     ($state:expr, $step:ident, $edge:ident $(, $at:expr)* => $delivery:expr) => {
         if $edge.fall {
             $state.$step($edge, $($at,)* true, $delivery)
@@ -70,7 +70,8 @@ impl BusState {
     /// Comparisons lead to the arm, since a processor foretells most of them, and may not foretell
     /// where a jump by a table goes. No more than three in a row single out one wire, as the
     /// compiler makes such a jump of four. None asks who drives the edge: of a well-formed one the
-    /// wire says whether the controller does.
+    /// wire says whether the controller does. No board stands in a slot beyond 21, which the
+    /// compiler does not know: by the first test it drops the later ones.
     #[inline(always)]
     pub(crate) fn step_formed(&mut self, edge: Edge, delivery: &mut Delivery) -> u8
         requires formed { is_well_formed edge ≡ true }
@@ -82,44 +83,40 @@ impl BusState {
     {
         let slot = edge.driver.number();
         let number = wire_number(edge.wire);
-        // No board stands in a slot beyond 21, which the compiler does not know: by this test it
-        // drops the later ones.
         if slot >= 22 {
             NO_DRIVER
         } else if number < 4 {
             if number < 1 {
-                by_direction!(
-                    self, step_controller, edge, Wire::Bg(edge.wire.grant_level()) => delivery
-                )
+                by_fall!(self, step_controller, edge, Wire::Bg(edge.wire.grant_level()) => delivery)
             } else if number < 2 {
-                by_direction!(self, step_controller, edge, Wire::Bclr => delivery)
+                by_fall!(self, step_controller, edge, Wire::Bclr => delivery)
             } else if number < 3 {
-                by_direction!(self, step_controller, edge, Wire::Iack => delivery)
+                by_fall!(self, step_controller, edge, Wire::Iack => delivery)
             } else {
-                by_direction!(self, step_controller, edge, Wire::Berr => delivery)
+                by_fall!(self, step_controller, edge, Wire::Berr => delivery)
             }
         } else if number < 7 {
             if number < 5 {
-                by_direction!(self, step_requester, edge, slot, Wire::Br => delivery)
+                by_fall!(self, step_requester, edge, slot, Wire::Br => delivery)
             } else if number < 6 {
-                by_direction!(self, step_requester, edge, slot, Wire::BgOut => delivery)
+                by_fall!(self, step_requester, edge, slot, Wire::BgOut => delivery)
             } else {
-                by_direction!(self, step_requester, edge, slot, Wire::Bbsy => delivery)
+                by_fall!(self, step_requester, edge, slot, Wire::Bbsy => delivery)
             }
         } else if number < 10 {
             if number < 8 {
-                by_direction!(self, step_master, edge, slot, Wire::Addr => delivery)
+                by_fall!(self, step_master, edge, slot, Wire::Addr => delivery)
             } else if number < 9 {
-                by_direction!(self, step_master, edge, slot, Wire::AddressStrobe => delivery)
+                by_fall!(self, step_master, edge, slot, Wire::AddressStrobe => delivery)
             } else {
-                by_direction!(self, step_master, edge, slot, Wire::DataStrobe => delivery)
+                by_fall!(self, step_master, edge, slot, Wire::DataStrobe => delivery)
             }
         } else if number < 11 {
-            by_direction!(self, step_interrupter, edge, slot, Wire::Irq => delivery)
+            by_fall!(self, step_interrupter, edge, slot, Wire::Irq => delivery)
         } else if number < 12 {
-            by_direction!(self, step_interrupter, edge, slot, Wire::IackOut => delivery)
+            by_fall!(self, step_interrupter, edge, slot, Wire::IackOut => delivery)
         } else {
-            by_direction!(self, step_interrupter, edge, slot, Wire::Dtack => delivery)
+            by_fall!(self, step_interrupter, edge, slot, Wire::Dtack => delivery)
         }
     }
 

@@ -12,3 +12,5 @@ pub mod NamedDrivers
 pub mod ListedDrivers
 -- src/aims.rt: a text that names no driver
 pub mod NamedBoards
+-- src/single.rt: a command alone reads as it does behind its name
+pub mod ReadAlone

@@ -11,8 +11,8 @@ use clap::ArgMatches;
 use vme_goals::{Aim, Goal, aim_of as any_aim};
 use vme_model::{Driver, Version};
 
-/// The aim that `--until` names, among all that a trace can reach in that version of the rules; none
-/// if the option is not given.
+/// The aim that `--until` names, among all that a trace can reach in that version of the rules;
+/// none if the option is not given.
 fn aim_of<'a>(operands: &ArgMatches<'a>, version: Version) -> Result<Option<Aim>, Unfit<'a>>
     ensures aim { IfOk result (IsAim (rows_of (found_of operands.now)) version) }
     ensures unfit { spelled (codes "version") (rows_of (found_of operands.now))
@@ -57,8 +57,8 @@ fn only_of<'a>(operands: &ArgMatches<'a>) -> Result<Option<Driver>, Unfit<'a>>
     }
 }
 
-/// The goal that `--until` names with `--of` and `--after`; none if `--until` is not given, and then
-/// neither of the others is.
+/// The goal that `--until` names with `--of` and `--after`; none if `--until` is not given, and
+/// then neither of the others is.
 pub(crate) fn goal_of<'a>(
     operands: &ArgMatches<'a>,
     version: Version,

@@ -320,27 +320,31 @@ fn command_on_traces<'a>(
     )
 }
 
-fn replay<'a>(alloc: Global) -> Result<Command<'a>, AllocError>
+/// The command `replay`.
+pub(crate) fn replay<'a>(alloc: Global) -> Result<Command<'a>, AllocError>
     ensures { IfOk result (λ c. shape_of c ≡ said.replay) }
 {
     let command = command_on_trace(alloc, "replay", REPLAY, REPLAY_USAGE, REPLAY_EXAMPLE);
     taking(command, full_option(alloc))
 }
 
-fn check<'a>(alloc: Global) -> Result<Command<'a>, AllocError>
+/// The command `check`.
+pub(crate) fn check<'a>(alloc: Global) -> Result<Command<'a>, AllocError>
     ensures { IfOk result (λ c. shape_of c ≡ said.check) }
 {
     command_on_traces(alloc, "check", CHECK, CHECK_USAGE, CHECK_EXAMPLE)
 }
 
-fn explain<'a>(alloc: Global) -> Result<Command<'a>, AllocError>
+/// The command `explain`.
+pub(crate) fn explain<'a>(alloc: Global) -> Result<Command<'a>, AllocError>
     ensures { IfOk result (λ c. shape_of c ≡ said.explain) }
 {
     let command = command_on_trace(alloc, "explain", EXPLAIN, EXPLAIN_USAGE, EXPLAIN_EXAMPLE);
     taking(command, edge_option(alloc, REFUSED_EDGE))
 }
 
-fn shrink<'a>(alloc: Global) -> Result<Command<'a>, AllocError>
+/// The command `shrink`.
+pub(crate) fn shrink<'a>(alloc: Global) -> Result<Command<'a>, AllocError>
     ensures { IfOk result (λ c. shape_of c ≡ said.shrink) }
 {
     let command = command_on_trace(alloc, "shrink", SHRINK, SHRINK_USAGE, SHRINK_EXAMPLE);
@@ -359,7 +363,8 @@ pub(crate) fn rule<'a>(alloc: Global) -> Result<Command<'a>, AllocError>
         .arg(rule_name(alloc))
 }
 
-fn state<'a>(alloc: Global) -> Result<Command<'a>, AllocError>
+/// The command `state`.
+pub(crate) fn state<'a>(alloc: Global) -> Result<Command<'a>, AllocError>
     ensures { IfOk result (λ c. shape_of c ≡ said.state) }
 {
     let command = command_on_trace(alloc, "state", STATE, STATE_USAGE, STATE_EXAMPLE);
@@ -376,13 +381,15 @@ pub(crate) fn show<'a>(alloc: Global) -> Result<Command<'a>, AllocError>
     taking(command, color_option(alloc))
 }
 
-fn cycles<'a>(alloc: Global) -> Result<Command<'a>, AllocError>
+/// The command `cycles`.
+pub(crate) fn cycles<'a>(alloc: Global) -> Result<Command<'a>, AllocError>
     ensures { IfOk result (λ c. shape_of c ≡ said.cycles) }
 {
     command_on_trace(alloc, "cycles", CYCLES, CYCLES_USAGE, CYCLES_EXAMPLE)
 }
 
-fn summary<'a>(alloc: Global) -> Result<Command<'a>, AllocError>
+/// The command `summary`.
+pub(crate) fn summary<'a>(alloc: Global) -> Result<Command<'a>, AllocError>
     ensures { IfOk result (λ c. shape_of c ≡ said.summary) }
 {
     command_on_traces(alloc, "summary", SUMMARY, SUMMARY_USAGE, SUMMARY_EXAMPLE)
@@ -397,7 +404,8 @@ pub(crate) fn races<'a>(alloc: Global) -> Result<Command<'a>, AllocError>
     taking(command, other_option(alloc))
 }
 
-fn same<'a>(alloc: Global) -> Result<Command<'a>, AllocError>
+/// The command `same`.
+pub(crate) fn same<'a>(alloc: Global) -> Result<Command<'a>, AllocError>
     ensures { IfOk result (λ c. shape_of c ≡ said.same) }
 {
     let command = command_on_trace(alloc, "same", SAME, SAME_USAGE, SAME_EXAMPLE);
@@ -415,7 +423,8 @@ pub(crate) fn order<'a>(alloc: Global) -> Result<Command<'a>, AllocError>
     taking(command, progress_option(alloc, PROGRESS))
 }
 
-fn probe<'a>(alloc: Global) -> Result<Command<'a>, AllocError>
+/// The command `probe`.
+pub(crate) fn probe<'a>(alloc: Global) -> Result<Command<'a>, AllocError>
     ensures { IfOk result (λ c. shape_of c ≡ said.probe) }
 {
     let command = command(alloc, "probe", PROBE, PROBE_USAGE, PROBE_EXAMPLE);
@@ -438,7 +447,8 @@ pub(crate) fn drive<'a>(alloc: Global) -> Result<Command<'a>, AllocError>
     taking(command, version_option(alloc))
 }
 
-fn run<'a>(alloc: Global) -> Result<Command<'a>, AllocError>
+/// The command `run`.
+pub(crate) fn run<'a>(alloc: Global) -> Result<Command<'a>, AllocError>
     ensures { IfOk result (λ c. shape_of c ≡ said.run) }
 {
     let command = command(alloc, "run", RUN, RUN_USAGE, RUN_EXAMPLE);

@@ -378,9 +378,11 @@ made it, c or a slot. At the end of the capture come these lines:
 If no such bus can show a change, these lines come in their place, and nothing is read after it;
 of a sample, the changes that could be made come first:
   @N CHANGE by none
-      D RULE CONDITION       for each driver of that line or pin: what stood in its way
-  impossible @N              or `impossible @N by our rules alone` if what stood in the way of one
-                             of them is marked ` (profile)`: it is stricter than the standard
+      D RULE CONDITION       for each driver D of that line or pin: its rule, and the first
+                             condition that does not hold. So `1 G17 DTACK* is high` says
+                             that DTACK* was still low
+  impossible @N              or `impossible @N by our rules alone` if one of these conditions is
+                             marked ` (profile)`: it is stricter than the standard
 If it cannot have begun with those `low` lines, the only line is `impossible running`. `by` may name
 a driver too many. It is meant never to leave one out, nor `impossible` to be wrong: docs/PROBE.md
 says how far this is proved, and describes captures and each line. The exit status is 0 if the

@@ -21,6 +21,7 @@ mod names;
 mod probes;
 mod races;
 mod same;
+mod single;
 mod slacks;
 
 use aims::goal_of;
@@ -29,6 +30,7 @@ use clap::{ArgMatches, Error};
 use commands::commands;
 use errors::error_of;
 use names::job_of;
+use single::asked_of_one;
 use slacks::slacks_in;
 use std::alloc::Global;
 use vme_goals::Goal;
@@ -124,8 +126,8 @@ pub enum Work<'a> {
         /// Whether it is reported how far the search came.
         progress: bool,
     },
-    /// Say whether a bus that keeps the rules can show what an analyser saw, and who may have driven
-    /// it.
+    /// Say whether a bus that keeps the rules can show what an analyser saw, and who may have
+    /// driven it.
     Probe {
         /// The file of the capture.
         capture: &'a str,
@@ -658,7 +660,10 @@ fn asked<'a>(alloc: Global, words: &'a [&'a str]) -> Result<Result<Job<'a>, Unfi
         (λ met. IsUnfit met.0 met.1 unfit))) }
     ensures fault { FailsBy (fault_of commands_said (texts_of words.entry.now)) result }
 {
-    Ok(job_in(alloc, &parsed(alloc, words)?))
+    match asked_of_one(alloc, words)? {
+        Some(job) => Ok(job),
+        None => Ok(job_in(alloc, &parsed(alloc, words)?)),
+    }
 }
 
 /// The job if the command line ended with this error. A request for the version is not an error.

@@ -1,93 +1,101 @@
 -- What is left of a trace.
-use Rattle.std.proofs.Common.{◌≡◌, inl, inr, ℕ, List, ◌++◌, Bool, false, Option, Some, None, Result, Ok, Err, refl, sym, ◌∙◌, ap, append_assoc, subst}
-use Rattle.std.specs.Io.KnownBytes.{Appends, Keeps}
-use Rattle.std.proofs.KnownBytes.{Appends-trans, Appends-kept}
+use Rattle.std.proofs.Common.{◌≡◌, inl, inr, ℕ, List, [], ◌∷◌, ◌++◌, Option, Some, None, Result, Ok, Err, refl, sym, ◌∙◌, ap, append_assoc, subst}
+use Rattle.std.specs.Io.KnownBytes.{Appends}
+use Rattle.std.proofs.KnownBytes.{Appends-trans}
 use Rattle.vme_model.specs.declared.signals.Edge.{Edge}
 use Rattle.vme_model.specs.declared.signals.Version.{Version}
 use Rattle.vme_model.specs.declared.signals.Wire.TheVariants.{AddressStrobe, Bbsy}
 use Rattle.vme_model.specs.Numbered.{Numbered, numbered}
 use Rattle.vme_model.specs.Plan.{Plan}
-use Rattle.vme_model.specs.Text.{Reading, read_of}
+use Rattle.vme_model.specs.Text.{Reading, TextFault, read_of}
 use Rattle.vme_trace.specs.declared.Fault.{Fault}
-use Rattle.vme_trace.specs.declared.Fault.TheVariants.{Write}
 use Rattle.vme_trace.specs.Writing.{AppendsFront}
 use Rattle.vme_trace.proofs.WrittenLines.{second_front}
 use Rattle.vme_reading.specs.declared.Status.{Status}
-use Rattle.vme_reading.specs.declared.EngineFault.TheVariants as fault
-use Rattle.vme_reading.specs.Streams.{streams}
-use Rattle.vme_reading.specs.Outcomes.{bench, refused_count, status_with}
-use Rattle.vme_reading.specs.Pieces.{Came}
-use Rattle.vme_reading.specs.Readings.{LeavesNow}
+use Rattle.vme_reading.specs.Streams.{Streams, Wrote, WroteFront}
+use Rattle.vme_reading.specs.Outcomes.{bench, refused_count}
+use Rattle.vme_reading.specs.Reporting.{AreLinesAt, HasWritten, HasWrittenFront, IsTextOf, ReportsEach, StopsBetween}
 use Rattle.vme_reading.specs.Steps.{traced}
-use Rattle.vme_reading.proofs.ReadOn.{came_begins}
-use Rattle.vme_reading.proofs.Waits.{waits_now}
-use Rattle.vme_reading.proofs.WrittenLines.{front_behind, front_kept, front_of_more}
-use Rattle.vme_cycles.specs.Outcomes.{Reports, cycles_text, ending, last_lines, edge_lines, lines_by}
+use Rattle.vme_reading.proofs.Waits.{stops_as}
+use Rattle.vme_reading.proofs.WrittenLines.{front_behind, front_of_more}
+use Rattle.vme_cycles.specs.Outcomes.{Reports, cycles_text, edge_lines, ending, last_lines, lines_by}
 use Rattle.vme_cycles.specs.declared.tracking.Tracking.{Tracking}
-use Rattle.vme_cycles.specs.Kept.{IsTracked, next_lines}
+use Rattle.vme_cycles.specs.Kept.{AreLines, IsKnown, IsText, IsTracked, next_line}
 use Rattle.vme_cycles.specs.Transactions.{ended, open_lines, totals_text}
-use Rattle.vme_cycles.proofs.NextLines.{edge_lines_append}
+use Rattle.vme_cycles.proofs.NextLines.{lines_append, lines_next}
 
 -- ---- the text of a trace
 
--- by its version, its edges and its fault
-module _ (p : Plan) (v : Version) (es : List Edge) where
-  whole_text : (r : Reading) → r.version ≡ Some v → r.edges ≡ es → r.fault ≡ None → cycles_text p r ≡ lines_by p v es ++ last_lines p v es
-  whole_text r named edges none = rw (named, edges, none) refl
+module _ (p : Plan) where
+  pub lines_are : (w : Option Version) (es : List Edge) (bytes : List ℕ) → AreLinesAt AreLines p w es bytes → bytes ≡ edge_lines p w es
+  lines_are None es bytes is = is
+  lines_are (Some v) es bytes is = is
 
-  abbrev rest : Reading → List ℕ
-  rest r = ending r.fault p r.version r.edges
+  text_is : (w : Option Version) (f : Option TextFault) (es : List Edge) (bytes : List ℕ) → f ≡ None → IsTextOf IsText p w es bytes
+      → bytes ≡ edge_lines p w es ++ ending f p w es
+  text_is None f es bytes none is = absurd is
+  text_is (Some v) f es bytes none is = is ∙ ap (λ g. lines_by p v es ++ ending g p (Some v) es) (sym none)
 
-  first_text : (r : Reading) (others : List Edge) → r.version ≡ Some v → r.edges ≡ es ++ others → cycles_text p r ≡ lines_by p v es ++ (next_lines p v es others ++ rest r)
-  first_text r others named edges =
-      ap (λ l. l ++ rest r) (rw (named, edges) (edge_lines_append p v es others)) ∙ append_assoc (lines_by p v es) (next_lines p v es others) (rest r)
+  -- the lines at the edges that it begins with are a front of it
+  begins_with : (w : Option Version) (f : Option TextFault) (es others : List Edge)
+      → (rest : List ℕ) × (edge_lines p w (es ++ others) ++ ending f p w (es ++ others) ≡ edge_lines p w es ++ rest)
+  begins_with None f es others = (ending f p None (es ++ others), refl)
+  begins_with (Some v) f es others =
+      let last = ending f p (Some v) (es ++ others) in
+      let all = lines_append (bench p v) 0 [] es others in
+      (_, ap (λ l. l ++ last) all ∙ append_assoc (lines_by p v es) _ last)
 
-  known : (w : Option Version) (gs : List Edge) → w ≡ Some v → gs ≡ es → status_with (refused_count p (Some v) es) ≡ status_with (refused_count p w gs)
-  known w gs named edges = rw (named, edges) refl
+module _ (p : Plan) (trace : List ℕ) (s : Streams) where
+  whole : (r : Reading) → r.fault ≡ None → (Writes : List ℕ → Type 0) (bytes : List ℕ) → IsTextOf IsText p r.version r.edges bytes → Writes bytes → Writes (cycles_text p r)
+  whole r none Writes bytes is wrote = subst Writes (text_is p r.version r.fault r.edges bytes none is) wrote
 
--- ---- the edges of a piece behind those before it
+  cut : (r : Reading) → StopsBetween AreLines p r (λ bytes. WroteFront s bytes) → WroteFront s (cycles_text p r)
+  cut r (es, others, edges, bytes, are, wrote) =
+      let front = begins_with p r.version r.fault es others in
+      let all : cycles_text p r ≡ edge_lines p r.version es ++ front.0 = ap (λ l. edge_lines p r.version l ++ ending r.fault p r.version l) edges ∙ front.1 in
+      subst (WroteFront s) (sym all)
+      (front_of_more s.old s.new (edge_lines p r.version es) front.0 (subst (WroteFront s) (lines_are p r.version es bytes are) wrote))
 
-module _ (p : Plan) (v : Version) (es fs : List Edge) (a b c : Option (List ℕ)) (wrote : Appends a b (lines_by p v es)) where
-  pub edge_lines_next : Appends b c (next_lines p v es fs) → Appends a c (lines_by p v (es ++ fs))
-  edge_lines_next more = subst (Appends a c) (sym (edge_lines_append p v es fs)) (Appends-trans a b c (lines_by p v es) (next_lines p v es fs) wrote more)
+  pub reported : (answer : Result Status Fault) → ReportsEach AreLines IsText (λ _. ⊥) p trace s answer → Reports p trace s (traced answer)
+  reported (Ok status) h = (h.0, h.1, whole (read_of trace) h.0 (Wrote s) h.2.0 h.2.1 h.2.2, h.3)
+  reported (Err f) h = elim h [
+    | inl waits ↦ inl (stops_as (λ w es. (bytes : List ℕ) × AreLinesAt AreLines p w es bytes × Wrote s bytes) (λ w es. Wrote s (edge_lines p w es))
+        (λ w es has. subst (Wrote s) (lines_are p w es has.0 has.1) has.2) trace s f waits)
+    | inr other ↦ elim other [
+      | inl never ↦ absurd never.0
+      | inr write ↦ inr (
+        write.0,
+        elim write.1 [
+          | inl lines ↦ cut (read_of trace) lines
+          | inr text ↦ whole (read_of trace) text.0 (WroteFront s) text.1 text.2 text.3
+        ],
+      )
+    ]
+  ]
 
-  pub edge_lines_cut : AppendsFront b c (next_lines p v es fs) → AppendsFront a c (lines_by p v (es ++ fs))
-  edge_lines_cut more = subst (AppendsFront a c) (sym (edge_lines_append p v es fs)) (front_behind a b c (lines_by p v es) (next_lines p v es fs) wrote more)
+-- ---- behind the lines at some edges
 
--- ---- by the last piece
+module _ (p : Plan) (v : Version) (es : List Edge) (now : Tracking) (first old new : Option (List ℕ))
+    (known : HasWritten (λ p v es bytes. IsKnown p v es bytes now) p v es first old) where
+  wrote : Appends first old (lines_by p v es)
+  wrote = subst (Appends first old) known.1.1 known.2
 
-module _ (p : Plan) (v : Version) (es : List Edge) (more : Result Bool Fault) where
-  abbrev Leaves : Option (List ℕ) → Option (List ℕ) → Result Status Fault → Type 0
-  Leaves old new r = LeavesNow (λ trace s a. Reports p trace s (traced a)) v es more old new r
+  module _ (e : Edge) (line : List ℕ) (is : line ≡ next_line p v es e) where
+    behind : lines_by p v es ++ line ≡ lines_by p v (es ++ e ∷ [])
+    behind = ap (λ l. lines_by p v es ++ l) is ∙ sym (lines_next p v es e)
 
-  pub cut_now : (old new : Option (List ℕ)) (f : Fault) → f ≡ Write → AppendsFront old new (lines_by p v es) → Leaves old new (Err f)
-  cut_now old new f is wrote = λ trace from to came.
-      let begins = came_begins v trace from to es more came in
-      inr (is, subst (AppendsFront old new) (sym (first_text p v es (read_of trace) begins.others begins.version begins.edges)) (front_of_more old new (lines_by p v es) _ wrote))
+    pub next_known : (next : Tracking) → IsTracked p v (es ++ e ∷ []) next → Appends old new line
+        → HasWritten (λ p v es bytes. IsKnown p v es bytes next) p v (es ++ e ∷ []) first new
+    next_known next tracked more = (lines_by p v es ++ line, (tracked, behind), Appends-trans first old new (lines_by p v es) line wrote more)
 
-  module _ (old mid new : Option (List ℕ)) (wrote : Appends old mid (lines_by p v es)) where
-    pub unflushed_now : (f : Fault) → f ≡ Write → Keeps mid new → Leaves old new (Err f)
-    unflushed_now f is kept = cut_now old new f is (front_kept old mid new (lines_by p v es) wrote kept)
+    pub next_cut : AppendsFront old new line → HasWrittenFront AreLines p v (es ++ e ∷ []) first new
+    next_cut more = (lines_by p v es ++ line, behind, front_behind first old new (lines_by p v es) line wrote more)
 
-    pub stop_now : (f : Fault) → more ≡ Err f → Keeps mid new → Leaves old new (Err f)
-    stop_now f is kept = λ trace from to came.
-        inl (waits_now (λ w gs. Appends old new (edge_lines p w gs)) v trace (streams from to old new) es more came (Appends-kept old mid new (lines_by p v es) wrote kept) f is)
+  pub ends : Appends old new (last_lines p v es) → HasWritten IsText p v es first new
+  ends more = (lines_by p v es ++ last_lines p v es, refl, Appends-trans first old new (lines_by p v es) (last_lines p v es) wrote more)
 
-    all_text : (trace : List ℕ) (from to : Option (List ℕ)) → Came v trace from to es (Ok false) → cycles_text p (read_of trace) ≡ lines_by p v es ++ last_lines p v es
-    all_text trace from to came = whole_text p v es (read_of trace) came.0.version came.1 came.2
-
-    pub end_now : (status : Status) → more ≡ Ok false → status ≡ status_with (refused_count p (Some v) es) → Appends mid new (last_lines p v es) → Leaves old new (Ok status)
-    end_now status is done last = λ trace from to came.
-        let end = subst (Came v trace from to es) is came in (
-          end.2,
-          end.3,
-          subst (Appends old new) (sym (all_text trace from to end)) (Appends-trans old mid new (lines_by p v es) (last_lines p v es) wrote last),
-          done ∙ known p v es (read_of trace).version (read_of trace).edges end.0.version end.1,
-        )
-
-    pub end_cut_now : (f : Fault) → more ≡ Ok false → f ≡ Write → AppendsFront mid new (last_lines p v es) → Leaves old new (Err f)
-    end_cut_now f is write last = λ trace from to came.
-        inr (write, subst (AppendsFront old new) (sym (all_text trace from to (subst (Came v trace from to es) is came))) (front_behind old mid new (lines_by p v es) (last_lines p v es) wrote last))
+  pub ends_cut : AppendsFront old new (last_lines p v es) → HasWrittenFront IsText p v es first new
+  ends_cut more = (lines_by p v es ++ last_lines p v es, refl, front_behind first old new (lines_by p v es) (last_lines p v es) wrote more)
 
 -- ---- the last lines
 

@@ -1,5 +1,5 @@
 -- What is kept of the edges so far.
-use Rattle.std.specs.Prelude.{◌≡◌, ◌+◌, ℕ, List, length}
+use Rattle.std.specs.Prelude.{◌≡◌, ◌+◌, ◌++◌, ℕ, List, length}
 use Rattle.vme_model.specs.declared.signals.Edge.{Edge}
 use Rattle.vme_model.specs.declared.signals.Version.{Version}
 use Rattle.vme_model.specs.declared.signals.Wire.TheVariants.{Bbsy, AddressStrobe}
@@ -7,11 +7,13 @@ use Rattle.vme_model.specs.Plan.{Plan}
 use Rattle.vme_model.specs.Numbered.{Numbered, numbered}
 use Rattle.vme_model.specs.Verdict.{kept}
 use Rattle.vme_reading.specs.Outcomes.{bench}
+use Rattle.vme_reading.specs.Reporting.{Writes}
 use Rattle.vme_following.specs.Followed.{IsAfter}
 use Rattle.vme_cycles.specs.declared.record.LastCycle.{LastCycle}
 use Rattle.vme_cycles.specs.declared.record.LastTenure.{LastTenure}
 use Rattle.vme_cycles.specs.declared.tracking.Tracking.{Tracking}
-use Rattle.vme_cycles.specs.Transactions.{answered, asked, cycle_of, ended, line_at, lines_on, showed}
+use Rattle.vme_cycles.specs.Outcomes.{last_lines, lines_by}
+use Rattle.vme_cycles.specs.Transactions.{answered, asked, cycle_of, ended, line_at, showed}
 
 -- each field is that look back through the numbered edges
 pub record IsCycleOf (p : Plan) (k : Numbered) (now : LastCycle) : Type 0 where
@@ -34,11 +36,20 @@ pub record IsTracked (p : Plan) (v : Version) (es : List Edge) (now : Tracking) 
 abbrev pub OfTracked : Tracking → (Plan → Version → List Edge → Type 0) → Type 0
 OfTracked t P = (p : Plan) (v : Version) (es : List Edge) → IsTracked p v es t → P p v es
 
--- what is written at the next edge of the trace, and at the next ones
+-- what is written at the next edge of the trace
 abbrev pub next_line : Plan → Version → List Edge → Edge → List ℕ
 next_line p v es e =
     line_at (kept (bench p v) es) (length es + 1) e (numbered (bench p v) es)
 
-abbrev pub next_lines : Plan → Version → List Edge → List Edge → List ℕ
-next_lines p v es others =
-    lines_on (kept (bench p v) es) (length es) (numbered (bench p v) es) others
+-- ---- what is written since the first edge
+
+-- the lines at these edges, and all that is written of them as a whole trace
+abbrev pub AreLines : Writes
+AreLines p v es bytes = bytes ≡ lines_by p v es
+
+abbrev pub IsText : Writes
+IsText p v es bytes = bytes ≡ lines_by p v es ++ last_lines p v es
+
+-- the edges were followed, and these are their lines
+abbrev pub IsKnown : Plan → Version → List Edge → List ℕ → Tracking → Type 0
+IsKnown p v es bytes now = IsTracked p v es now × AreLines p v es bytes

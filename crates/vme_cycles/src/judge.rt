@@ -1,18 +1,13 @@
 //! Reading a trace, and writing what its transactions are.
-ghost use Rattle.std.specs.Prelude.{◌≡◌, ◌++◌, [], IfErr, IfOk, OnErr, OnOk, Some};
-ghost use Rattle.std.proofs.Common.{inl};
+ghost use Rattle.std.specs.Prelude.{◌≡◌, ◌++◌, IfErr, OnErr, OnOk, Some};
 ghost use Rattle.std.specs.Io.KnownBytes.{Appends};
 ghost use Rattle.vme_model.specs.Numbered.{numbered};
 ghost use Rattle.vme_trace.specs.Writing.{AppendsFront};
-ghost use Rattle.vme_reading.specs.Streams.{ReadNothing, Wrote, WroteNothing, streams};
-ghost use Rattle.vme_reading.specs.Outcomes.{LentAsking, bench, refused_count, status_with};
-ghost use Rattle.vme_reading.specs.Steps.{traced};
+ghost use Rattle.vme_reading.specs.Streams.{ReadNothing, WroteNothing, streams};
+ghost use Rattle.vme_reading.specs.Outcomes.{LentAsking, bench, refused_count};
 ghost use Rattle.vme_cycles.specs.Transactions.{cycle_begun, open_cycle_line, open_lines, open_tenure_line, tenure_begun};
-ghost use Rattle.vme_cycles.specs.Outcomes.{Reports, ReportsInput, edge_lines, last_lines, lines_by};
-ghost use Rattle.vme_cycles.specs.Kept.{IsTracked, OfTracked};
-ghost use Rattle.vme_reading.specs.Unread.{stops_unread};
-ghost use Rattle.vme_reading.proofs.WrittenLines.{appends_behind};
-ghost use Rattle.std.proofs.KnownBytes.{Appends-nil};
+ghost use Rattle.vme_cycles.specs.Outcomes.{ReportsInput};
+ghost use Rattle.vme_cycles.specs.Kept.{AreLines, IsKnown, IsText, OfTracked};
 
 use crate::lines::{Line, totals_line};
 use crate::tracking::Tracking;
@@ -21,7 +16,7 @@ use std::alloc::Global;
 use std::io::{Read, Write};
 use vme_bus::Bus;
 use vme_model::{Driver, Edge, Wire};
-use vme_reading::{EngineFault, Judge, Status, read};
+use vme_reading::{AtEach, EngineFault, Status, at_each};
 use vme_trace::{Fault, flush, put};
 
 /// Writes two lines.
@@ -105,18 +100,36 @@ impl Tracking {
             write_both(&cycle, &tenure, out)
         }
     }
+}
 
-    /// Writes what is under way and the last line, and has the writer hand on what it holds back.
-    /// The status says whether some edge was refused.
-    fn finish<W: Write>(&self, out: &mut W) -> Result<Status, Fault>
-        ensures status { IfOk result (λ status. OfTracked self.now (λ p v es.
-            status ≡ status_with (refused_count p (Some v) es))) }
-        ensures ok { OnOk result (OfTracked self.now (λ p v es.
-            Appends (W.contents out.old) (W.contents out.new) (last_lines p v es))) }
-        ensures front { OnErr result (OfTracked self.now (λ p v es.
-            AppendsFront (W.contents out.old) (W.contents out.new) (last_lines p v es))) }
-        ensures fault { IfErr result (λ fault. fault ≡ Fault.Write) }
-    {
+impl AtEach for Tracking {
+    type Task = ();
+
+    ghost count = { λ now. now.following.judged };
+
+    ghost knows = { IsKnown };
+
+    ghost lines = { AreLines };
+
+    ghost text = { IsText };
+
+    ghost fails = { λ _. ⊥ };
+
+    ghost told = { λ p v es bytes now knows. knows.1 };
+
+    fn begin(_task: &(), bus: Bus) -> Tracking {
+        Tracking::new(bus)
+    }
+
+    /// Writes the line of an edge that ends something or is refused.
+    fn see<W: Write>(&mut self, edge: &Edge, out: &mut W) -> Result<(), Fault> {
+        let line = self.take_in(edge);
+        put(out, line.as_slice())?;
+        Ok(())
+    }
+
+    /// Writes what is under way and the last line.
+    fn finish<W: Write>(&self, out: &mut W) -> Result<Status, Fault> {
         let refused = self.refused();
         self.write_open(out)?;
         put(
@@ -125,54 +138,6 @@ impl Tracking {
         )?;
         flush(out)?;
         Ok(Status::of_refused(refused))
-    }
-}
-
-impl Judge for Tracking {
-    type Task = ();
-
-    type Answer = Status;
-
-    ghost can = { λ _. Unit {0} };
-
-    ghost count = { λ now. now.following.judged };
-
-    ghost stands = { λ _ p v es old new now.
-        Appends old new (lines_by p v es) × IsTracked p v es now };
-
-    ghost leaves = { λ _ p trace s answer. Reports p trace s (traced answer) };
-
-    ghost unbegun = { λ task can p trace s f kept h.
-        inl (stops_unread (λ version es. Wrote s (edge_lines p version es))
-        (appends_behind s.old s.new s.new [] kept (Appends-nil s.new)) trace s f h) };
-
-    fn begin(_task: &(), bus: Bus) -> Tracking {
-        Tracking::new(bus)
-    }
-
-    /// Writes the lines at the edges. At the end of the trace it writes what is under way and the
-    /// last line.
-    fn take<W: Write>(
-        &mut self,
-        edges: &[Edge],
-        more: Result<bool, Fault>,
-        paused: bool,
-        out: &mut W,
-    ) -> Result<Option<Status>, Fault> {
-        self.take_edges(edges, out)?;
-        match more {
-            Ok(true) => {
-                if paused {
-                    flush(out)?;
-                }
-                Ok(None)
-            }
-            Ok(false) => Ok(Some(self.finish(out)?)),
-            Err(fault) => {
-                flush(out)?;
-                Err(fault)
-            }
-        }
     }
 }
 
@@ -197,5 +162,5 @@ pub fn cycles<R: Read, W: Write>(
         (W.contents out.old) (W.contents out.new) in
         LentAsking scenario.now (ReadNothing s × WroteNothing s) (ReportsInput s) result }
 {
-    read::<Tracking, R, W>(alloc, scenario, &(), trace, out)
+    at_each::<Tracking, R, W>(alloc, scenario, &(), trace, out)
 }

@@ -1,27 +1,22 @@
 //! A trace that is followed by its transactions, edge by edge.
-ghost use Rattle.std.specs.Prelude.{◌≡◌, ◌+◌, ◌<◌, ◌^◌, ◌++◌, ◌∷◌, [], IfErr, IsTrue, OnErr, OnOk, length, true};
-ghost use Rattle.std.specs.Io.KnownBytes.{Appends};
+ghost use Rattle.std.specs.Prelude.{◌≡◌, ◌+◌, ◌<◌, ◌^◌, ◌++◌, ◌∷◌, [], IsTrue, true};
 ghost use Rattle.vme_model.specs.declared.signals.Wire.TheVariants.{Bbsy};
 ghost use Rattle.vme_model.specs.declared.signals.Version.{Version};
 ghost use Rattle.vme_model.specs.Plan.{Plan};
 ghost use Rattle.vme_model.specs.Signals.{has_wire, is_well_formed};
-ghost use Rattle.vme_model.specs.Locality.{AreWellFormed};
 ghost use Rattle.vme_model.specs.History.{cycles, shown};
 ghost use Rattle.vme_model.specs.Numbered.{edges_in, numbered};
-ghost use Rattle.vme_trace.specs.Writing.{AppendsFront};
 ghost use Rattle.vme_reading.specs.Outcomes.{bench};
 ghost use Rattle.vme_cycles.specs.Transactions.{cycle_line as cycle_line_of, ended_line, last_on, request_of, tenure_line as tenure_line_of};
-ghost use Rattle.vme_cycles.specs.Kept.{IsTracked, OfTracked, next_line, next_lines};
+ghost use Rattle.vme_cycles.specs.Kept.{IsTracked, OfTracked, next_line};
 
 use crate::lines::{Line, cycle_line, refused_line, tenure_line};
 use crate::record::{LastCycle, LastTenure, Sight};
 use arrayvec::ArrayVec;
-use std::io::Write;
 use vme_bus::Bus;
 use vme_explain::since;
 use vme_following::Following;
 use vme_model::{Driver, Edge, Wire};
-use vme_trace::{Fault, put};
 
 /// A trace under way, with its last cycle and its last tenure.
 #[derive(Drop)]
@@ -130,11 +125,12 @@ impl Tracking {
     }
 
     /// Takes in the next edge. Gives its line, if it ends something or is refused.
-    fn take_in(&mut self, edge: &Edge) -> Line
+    pub(crate) fn take_in(&mut self, edge: &Edge) -> Line
         requires room { self.old.following.judged + 1 < 2 ^ 64 }
         requires well_formed { IsTrue (is_well_formed edge.now) }
         ensures judged { self.new.following.judged ≡ self.old.following.judged + 1 }
-        ensures tracked { OfTracked self.old (λ p v es. IsTracked p v (es ++ edge.now ∷ []) self.new) }
+        ensures tracked { OfTracked self.old (λ p v es.
+            IsTracked p v (es ++ edge.now ∷ []) self.new) }
         ensures line { OfTracked self.old (λ p v es. result.items ≡ next_line p v es edge.now) }
     {
         let n = self.following.judged + 1;
@@ -150,30 +146,5 @@ impl Tracking {
             }
             Err(_) => refused_line(n, edge, &answer),
         }
-    }
-
-    /// Takes in the next edges, and writes their lines.
-    ///
-    /// # Errors
-    /// X8 if that failed; a prefix of the lines was written then.
-    pub(crate) fn take_edges<W: Write>(&mut self, edges: &[Edge], out: &mut W) -> Result<(), Fault>
-        requires room { self.old.following.judged + length edges.now < 2 ^ 64 }
-        requires well_formed { AreWellFormed edges.now }
-        ensures judged { OnOk result
-            (self.new.following.judged ≡ self.old.following.judged + length edges.now) }
-        ensures tracked { OnOk result
-            (OfTracked self.old (λ p v es. IsTracked p v (es ++ edges.now) self.new)) }
-        ensures ok { OnOk result (OfTracked self.old (λ p v es.
-            Appends (W.contents out.old) (W.contents out.new) (next_lines p v es edges.now))) }
-        ensures front { OnErr result (OfTracked self.old (λ p v es.
-            AppendsFront (W.contents out.old) (W.contents out.new)
-            (next_lines p v es edges.now))) }
-        ensures fault { IfErr result (λ fault. fault ≡ Fault.Write) }
-    {
-        for edge in edges {
-            let line = self.take_in(edge);
-            put(out, line.as_slice())?;
-        }
-        Ok(())
     }
 }

@@ -11,7 +11,7 @@ pub use orders::order;
 use thiserror::Error;
 use vme_moments::MomentsFault;
 pub use vme_order_search::OrderProgress;
-use vme_reading::EngineFault;
+use vme_reading::{EngineFault, TOO_MANY_ORDERS};
 
 /// What is written of an order.
 #[derive(Clone, Copy, PartialEq, Eq, Debug)]
@@ -35,6 +35,6 @@ pub enum OrderingFault {
     #[error("no board has the slot {0} of --slack")]
     NoBoard(u8),
     /// F5: there are too many orders.
-    #[error("F5 too many orders")]
+    #[error("{}", TOO_MANY_ORDERS)]
     TooManyOrders,
 }

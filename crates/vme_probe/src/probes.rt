@@ -1,5 +1,5 @@
 //! Reading a capture, and writing what it says of the bus.
-ghost use Rattle.std.specs.Prelude.{◌≡◌, ◌<◌, ◌⊎◌, ◌↔◌, ◌++◌, ◌∷◌, [], ℕ, List, Option, None, Some, IfErr, IsTrue, OnOk, slice_get};
+ghost use Rattle.std.specs.Prelude.{◌≡◌, ◌++◌, ◌∷◌, [], ℕ, List, Option, None, Some, IfErr, IsTrue, OnOk};
 ghost use Rattle.std.specs.Io.KnownBytes.{Keeps};
 ghost use Rattle.vme_model.specs.declared.signals.Version.{Version as VersionValue};
 ghost use Rattle.vme_captures.specs.declared.signals.Entry.{Entry as EntryValue};
@@ -19,7 +19,7 @@ use std::alloc::Global;
 use std::io::{Read, Write};
 use thiserror::Error;
 use vme_captures::{CaptureFault, Change, Entry, Reader};
-use vme_reading::{EngineFault, Status, plan_of};
+use vme_reading::{EngineFault, Status, TOO_MANY_ORDERS, has_paused, plan_of};
 use vme_samples::SeenChange;
 use vme_slots::Plan;
 use vme_trace::{Fault, flush, read_piece};
@@ -40,7 +40,7 @@ pub enum ProbeFault {
     #[error("{0}")]
     Capture(CaptureFault),
     /// F5: a sample has too many orders: it has more than 12 changes.
-    #[error("F5 too many orders")]
+    #[error("{}", TOO_MANY_ORDERS)]
     TooManyOrders,
 }
 
@@ -405,14 +405,6 @@ impl Judging {
             }
         }
     }
-}
-
-/// Whether whoever writes the capture may wait behind a read that gave so many bytes: nothing else
-/// was waiting, or they end with a whole line.
-fn has_paused(buffer: &[u8; PIECE], count: usize) -> bool
-    ensures paused { IsTrue result ↔ ((count < 512) ⊎ (slice_get buffer.now 511 ≡ Some 10)) }
-{
-    count < PIECE || buffer[PIECE - 1] == b'\n'
 }
 
 /// Has the writer hand on what it holds back, if whoever writes the capture may wait.

@@ -86,7 +86,8 @@ of_next name (Err f) cs old new so takes = (
   takes.2,
 )
 
-module _ (p : Plan) (names : List (List ℕ)) (i : ℕ) (name : List ℕ) (now : Added) (a b c : Known) (next : take (i + 1) names ≡ take i names ++ name ∷ []) (so_far : TakesAll (take i names) a b (Ok now) p) where
+module _ (p : Plan) (names : List (List ℕ)) (i : ℕ) (name : List ℕ) (now : Added) (a b c : Known) (next : take (i + 1) names ≡ take i names ++ name ∷ [])
+    (so_far : TakesAll (take i names) a b (Ok now) p) where
   -- one more file
   pub one_added : (now' : Added) → TakesFile name now now' b c (Ok tt) p → TakesAll (take (i + 1) names) a c (Ok now') p
   one_added now' f = (
@@ -110,7 +111,8 @@ module _ (p : Plan) (names : List (List ℕ)) (i : ℕ) (name : List ℕ) (now :
     front_behind a b c (counted_lines so_far.0) (counted_line name h.0) so_far.2 h.3.1,
   )
 
-pub all_added : (p : Plan) (traces : List (Bor (List ℕ))) (i : ℕ) (now : Added) (a b : Known) → length traces ≤ i → TakesAll (take i (texts_of traces)) a b (Ok now) p → TakesAll (texts_of traces) a b (Ok now) p
+pub all_added : (p : Plan) (traces : List (Bor (List ℕ))) (i : ℕ) (now : Added) (a b : Known) → length traces ≤ i → TakesAll (take i (texts_of traces)) a b (Ok now) p
+    → TakesAll (texts_of traces) a b (Ok now) p
 all_added p traces i now a b beyond h =
     let size : length (texts_of traces) ≤ i = let is = length-map traces (λ (word : Bor (List ℕ)). word.now) in omega (arith, is, beyond) in
     subst (λ (l : List (List ℕ)). TakesAll l a b (Ok now) p) (take_all i (texts_of traces) size) h
@@ -142,17 +144,20 @@ module _ (p : Plan) (a b : Known) (now : Added) (counted : now.traces ≡ 0 → 
   count_cut front ts are =
       subst (λ n. AppendsFront a b (totals p ts n)) are.traces (some_shown (AppendsFront a b) p ts now.traces some (front_of_more a b (traces_line now.traces) (sums_text p ts) front))
 
-  pub totals_written : (c : Known) (r : Result (Unit {0}) Fault) → Appends a b (traces_line now.traces) → OnOk r (OfSums now.sums (λ ts. Appends b c (sums_text p ts))) → OnOk r (OfAdded now (λ ts. Appends a c (totals_text p ts)))
+  pub totals_written : (c : Known) (r : Result (Unit {0}) Fault) → Appends a b (traces_line now.traces) → OnOk r (OfSums now.sums (λ ts. Appends b c (sums_text p ts)))
+      → OnOk r (OfAdded now (λ ts. Appends a c (totals_text p ts)))
   unfolding totals
   totals_written c (Err f) first rest = tt
   totals_written c (Ok u) first rest = λ ts are.
       subst (λ n. Appends a c (totals p ts n)) are.traces (some_shown (Appends a c) p ts now.traces some (Appends-trans a b c (traces_line now.traces) (sums_text p ts) first (rest ts are.sums)))
 
-  pub totals_cut : (c : Known) (r : Result (Unit {0}) Fault) → Appends a b (traces_line now.traces) → OnErr r (OfSums now.sums (λ ts. AppendsFront b c (sums_text p ts))) → OnErr r (OfAdded now (λ ts. AppendsFront a c (totals_text p ts)))
+  pub totals_cut : (c : Known) (r : Result (Unit {0}) Fault) → Appends a b (traces_line now.traces) → OnErr r (OfSums now.sums (λ ts. AppendsFront b c (sums_text p ts)))
+      → OnErr r (OfAdded now (λ ts. AppendsFront a c (totals_text p ts)))
   unfolding totals
   totals_cut c (Ok u) first rest = tt
   totals_cut c (Err f) first rest = λ ts are.
-      subst (λ n. AppendsFront a c (totals p ts n)) are.traces (some_shown (AppendsFront a c) p ts now.traces some (front_behind a b c (traces_line now.traces) (sums_text p ts) first (rest ts are.sums)))
+      subst (λ n. AppendsFront a c (totals p ts n)) are.traces (some_shown (AppendsFront a c) p ts now.traces some
+      (front_behind a b c (traces_line now.traces) (sums_text p ts) first (rest ts are.sums)))
 
 -- a line could not be written
 pub lines_cut : (p : Plan) (names : List (List ℕ)) (a b : Known) (f : Fault) → TakesAll names a b (Err f) p → SumsAll names a b (Err f) p
@@ -164,17 +169,21 @@ module _ (p : Plan) (names : List (List ℕ)) (a b : Known) (now : Added) (taken
   whole_cut to front = (taken.0, [], taken.1.counted, sym taken.1.named ∙ sym (append-nil _), inr (refl, front))
 
   all_written : (c d : Known) → OfAdded now (λ ts. Appends b c (totals_text p ts)) → Keeps c d → Appends a d (sums_of p taken.0)
-  all_written c d wrote kept = Appends-kept a c d (sums_of p taken.0) (Appends-trans a b c (counted_lines taken.0) (totals_text p (answers_of taken.0)) taken.2 (wrote (answers_of taken.0) taken.3.0)) kept
+  all_written c d wrote kept = Appends-kept a c d (sums_of p taken.0) (Appends-trans a b c (counted_lines taken.0) (totals_text p (answers_of taken.0)) taken.2
+      (wrote (answers_of taken.0) taken.3.0)) kept
 
-pub sums_cut : (p : Plan) (names : List (List ℕ)) (a b c : Known) (now : Added) → TakesAll names a b (Ok now) p → (f : Fault) → f ≡ Write → OfAdded now (λ ts. AppendsFront b c (totals_text p ts)) → SumsAll names a c (Err f) p
+pub sums_cut : (p : Plan) (names : List (List ℕ)) (a b c : Known) (now : Added) → TakesAll names a b (Ok now) p → (f : Fault) → f ≡ Write → OfAdded now (λ ts. AppendsFront b c (totals_text p ts))
+    → SumsAll names a c (Err f) p
 sums_cut p names a b c now taken f is front =
     (is, whole_cut p names a b now taken c (front_behind a b c (counted_lines taken.0) (totals_text p (answers_of taken.0)) taken.2 (front (answers_of taken.0) taken.3.0)))
 
-pub flush_cut : (p : Plan) (names : List (List ℕ)) (a b c d : Known) (now : Added) → TakesAll names a b (Ok now) p → OfAdded now (λ ts. Appends b c (totals_text p ts)) → Keeps c d → (f : Fault) → f ≡ Write → SumsAll names a d (Err f) p
+pub flush_cut : (p : Plan) (names : List (List ℕ)) (a b c d : Known) (now : Added) → TakesAll names a b (Ok now) p → OfAdded now (λ ts. Appends b c (totals_text p ts)) → Keeps c d → (f : Fault)
+    → f ≡ Write → SumsAll names a d (Err f) p
 flush_cut p names a b c d now taken wrote kept f is =
     (is, whole_cut p names a b now taken d (sums_of p taken.0, [], sym (append-nil _), all_written p names a b now taken c d wrote kept))
 
-pub sums_written : (p : Plan) (names : List (List ℕ)) (a b c d : Known) (now : Added) → TakesAll names a b (Ok now) p → OfAdded now (λ ts. Appends b c (totals_text p ts)) → Keeps c d → SumsAll names a d (Ok now) p
+pub sums_written : (p : Plan) (names : List (List ℕ)) (a b c d : Known) (now : Added) → TakesAll names a b (Ok now) p → OfAdded now (λ ts. Appends b c (totals_text p ts)) → Keeps c d
+    → SumsAll names a d (Ok now) p
 sums_written p names a b c d now taken wrote kept = (taken.0, taken.1, all_written p names a b now taken c d wrote kept, taken.3)
 
 -- ---- the job

@@ -76,7 +76,8 @@ names_next traces i d within =
     let among : i < length (texts_of traces) = let size = length-map traces (λ (word : Bor (List ℕ)). word.now) in omega (arith, size, within) in
     take_more (texts_of traces) i d.now among ∙ ap (λ name. take i (texts_of traces) ++ name ∷ []) (get_or-map (λ (word : Bor (List ℕ)). word.now) traces i d d.now within)
 
-module _ (p : Plan) (names : List (List ℕ)) (i : ℕ) (name : List ℕ) (seen : Seen) (a b c : Known) (next : take (i + 1) names ≡ take i names ++ name ∷ []) (so_far : ChecksAll (take i names) a b (Ok seen) p) where
+module _ (p : Plan) (names : List (List ℕ)) (i : ℕ) (name : List ℕ) (seen : Seen) (a b c : Known) (next : take (i + 1) names ≡ take i names ++ name ∷ [])
+    (so_far : ChecksAll (take i names) a b (Ok seen) p) where
   -- one more file
   pub file_more : (seen' : Seen) → ChecksFile name seen seen' b c (Ok tt) p → ChecksAll (take (i + 1) names) a c (Ok seen') p
   file_more seen' f = (
@@ -100,7 +101,8 @@ module _ (p : Plan) (names : List (List ℕ)) (i : ℕ) (name : List ℕ) (seen 
     front_behind a b c (file_lines so_far.0) (file_line name h.0) so_far.1.wrote h.3.1,
   )
 
-pub all_checked : (p : Plan) (traces : List (Bor (List ℕ))) (i : ℕ) (seen : Seen) (a b : Known) → length traces ≤ i → ChecksAll (take i (texts_of traces)) a b (Ok seen) p → ChecksAll (texts_of traces) a b (Ok seen) p
+pub all_checked : (p : Plan) (traces : List (Bor (List ℕ))) (i : ℕ) (seen : Seen) (a b : Known) → length traces ≤ i → ChecksAll (take i (texts_of traces)) a b (Ok seen) p
+    → ChecksAll (texts_of traces) a b (Ok seen) p
 all_checked p traces i seen a b beyond h =
     let size : length (texts_of traces) ≤ i = let is = length-map traces (λ (word : Bor (List ℕ)). word.now) in omega (arith, is, beyond) in
     subst (λ (l : List (List ℕ)). ChecksAll l a b (Ok seen) p) (take_all i (texts_of traces) size) h
@@ -108,7 +110,8 @@ all_checked p traces i seen a b beyond h =
 -- ---- the job
 
 -- no plan, whatever a job over several traces does with one
-pub unplanned : (text : List ℕ) (Leaves : Plan → Answer → Type 0) (old new : Known) (Stops : List ℕ → Fault → Type 0) (Fails : ProgramFault → Type 0) (name : Bor (List ℕ)) (f : EngineFault) → Keeps old new → IsNoPlan text f
+pub unplanned : (text : List ℕ) (Leaves : Plan → Answer → Type 0) (old new : Known) (Stops : List ℕ → Fault → Type 0) (Fails : ProgramFault → Type 0) (name : Bor (List ℕ)) (f : EngineFault)
+    → Keeps old new → IsNoPlan text f
     → Hands (Alone (λ (a : Answer). (t : List ℕ) × Lent t (Keeps old new) Leaves a)) Stops Fails (Keeps old new) (Err (fault_named name f))
 unplanned text Leaves old new Stops Fails name fault.TooLong kept_so h = kept_so
 unplanned text Leaves old new Stops Fails name (fault.Scenario e) kept_so h = inl (text, (h.0, h.1, kept_so))

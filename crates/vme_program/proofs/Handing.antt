@@ -29,7 +29,8 @@ use Rattle.vme_program.specs.Done.{Alone, Does, DoesTask, Fails, Hands, IsDone, 
 use Rattle.vme_program.specs.Names.{fault_named, form_of, answer_named, order_answer_named, other_answer_named, run_answer_named}
 
 -- a fault that every engine has
-fault_handed : (Ends : Result Status RunFault → Type 0) (Stops : List ℕ → Fault → Type 0) (Fails : ProgramFault → Type 0) (nothing : Type 0) (name : Bor (List ℕ)) (f : EngineFault) → Ends (Err (run.Engine f))
+fault_handed : (Ends : Result Status RunFault → Type 0) (Stops : List ℕ → Fault → Type 0) (Fails : ProgramFault → Type 0) (nothing : Type 0) (name : Bor (List ℕ)) (f : EngineFault)
+    → Ends (Err (run.Engine f))
     → (Ends (Err (run.Engine fault.CannotRead)) → nothing) → (Ends (Err (run.Engine fault.TooLong)) → nothing) → Hands Ends Stops Fails nothing (Err (fault_named name f))
 fault_handed Ends Stops Fails nothing name fault.CannotRead does unread long = unread does
 fault_handed Ends Stops Fails nothing name fault.TooLong does unread long = long does
@@ -63,7 +64,8 @@ pub run_done : (scenario : Bor (List ℕ)) (text : List ℕ) (edges turns : ℕ)
     → Runs text version edges turns old new answer → IsDone (OnScenario scenario (Run edges turns version)) old new (run_answer_named scenario answer)
 run_done scenario text edges turns version old new (Ok status) does = (text, does)
 run_done scenario text edges turns version old new (Err (run.Engine f)) does =
-    fault_handed (Does (OnScenario scenario (Run edges turns version)) old new) (Stops (OnScenario scenario (Run edges turns version))) (Fails (OnScenario scenario (Run edges turns version)) old new) (Keeps old new) scenario f
+    fault_handed (Does (OnScenario scenario (Run edges turns version)) old new) (Stops (OnScenario scenario (Run edges turns version))) (Fails (OnScenario scenario (Run edges turns version)) old new)
+    (Keeps old new) scenario f
     (text, does) (λ h. absurd h.1) (λ h. h.1.1)
 run_done scenario text edges turns version old new (Err run.NotStarted) does = (text, does)
 run_done scenario text edges turns version old new (Err (run.LogDiffers driver at)) does = (text, does)
@@ -94,7 +96,8 @@ order_done scenario moments text slacks places progress form from to old new ans
         → IsDone (OnScenario scenario (Order moments slacks places progress)) old new (order_answer_named scenario answer)
     by (Ok status) does = (text, from, to, does)
     by (Err (order.Engine f)) does =
-        fault_handed (Does (OnScenario scenario (Order moments slacks places progress)) old new) (Stops (OnScenario scenario (Order moments slacks places progress))) (Fails (OnScenario scenario (Order moments slacks places progress)) old new) (Keeps old new) scenario f (text, from, to, does) (λ h. absurd h.3.3.2) (λ h. h.3.1.1)
+        fault_handed (Does (OnScenario scenario (Order moments slacks places progress)) old new) (Stops (OnScenario scenario (Order moments slacks places progress)))
+        (Fails (OnScenario scenario (Order moments slacks places progress)) old new) (Keeps old new) scenario f (text, from, to, does) (λ h. absurd h.3.3.2) (λ h. h.3.1.1)
     by (Err (order.Moments f)) does = (text, from, to, does)
     by (Err (order.NoBoard slot)) does = (text, from, to, does)
     by (Err order.TooManyOrders) does = (text, from, to, does)

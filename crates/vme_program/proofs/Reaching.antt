@@ -49,7 +49,8 @@ pub sought_done : (text : List ℕ) (edges first last : ℕ) (goal : Goal) (vers
     → Lent text (Keeps old new) (Finds version edges first last goal old new found) (found_answer found)
     → Lent text (Keeps old new) (DoesDrive edges version (Sought first last goal progress) old new) (found_answer found)
 sought_done text edges first last goal version progress old new found does =
-    lent_on text (Keeps old new) (Finds version edges first last goal old new found) (DoesDrive edges version (Sought first last goal progress) old new) (found_answer found) (λ p short is runs. (found, refl, runs)) does
+    lent_on text (Keeps old new) (Finds version edges first last goal old new found) (DoesDrive edges version (Sought first last goal progress) old new) (found_answer found)
+    (λ p short is runs. (found, refl, runs)) does
 
 module _ (scenario : Bor (List ℕ)) (text : List ℕ) (edges : ℕ) (version : Version) (choice : Choice) where
   abbrev job : Job

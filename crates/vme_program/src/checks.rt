@@ -93,8 +93,8 @@ fn write_found<W: Write>(name: &str, finding: Finding, out: &mut W) -> Result<()
     write_finding(finding, out)
 }
 
-/// Checks the trace of that name, one of several on the scenario. It writes what is found, and prints
-/// a fault.
+/// Checks the trace of that name, one of several on the scenario. It writes what is found, and
+/// prints a fault.
 ///
 /// # Errors
 /// X8 if the output cannot be written.

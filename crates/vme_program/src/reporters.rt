@@ -32,8 +32,8 @@ impl<'r> Reporter<'r> {
         }
     }
 
-    /// Whether a line is due at that time: the first one, and any other as soon as a second has passed
-    /// since the last. If so, it counts as the last one printed.
+    /// Whether a line is due at that time: the first one, and any other as soon as a second has
+    /// passed since the last. If so, it counts as the last one printed.
     fn is_due_at(&mut self, now: Instant) -> bool
         ensures { IsPaced self.old.last_line self.new.last_line now result }
     {

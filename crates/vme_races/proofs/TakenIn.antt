@@ -1,9 +1,6 @@
 -- What is kept of the edges so far, with the next one.
-use Rattle.std.proofs.Common.{◌≡◌, inl, inr, ◌+◌, ◌<◌, ◌≤◌, ◌^◌, ◌++◌, ◌∷◌, [], ℕ, Bool, true, false, List, Option, Some, Ok, Err, is_ok, length, take, drop, get_or, refl, sym, ◌∙◌, ap, append-nil, take-append-drop, subst, arith}
+use Rattle.std.proofs.Common.{◌≡◌, ◌+◌, ◌<◌, ◌≤◌, ◌^◌, ◌++◌, ◌∷◌, [], ℕ, Bool, true, false, List, Ok, Err, is_ok, length, refl, sym, ◌∙◌, ap, append-nil, subst, arith}
 use Rattle.std.specs.Prelude.{if◌then◌else◌}
-use Rattle.std.specs.Io.KnownBytes.{Appends}
-use Rattle.std.proofs.KnownBytes.{Appends-trans}
-use Rattle.std.proofs.Math.ListN.{length-append}
 use Rattle.vme_model.specs.declared.signals.Edge.{Edge}
 use Rattle.vme_model.specs.declared.signals.Version.{Version}
 use Rattle.vme_model.specs.Plan.{Plan}
@@ -14,22 +11,17 @@ use Rattle.vme_bus.specs.declared.states.BusState.{BusState}
 use Rattle.vme_bus.specs.declared.kinds.BusKind.{BusKind}
 use Rattle.vme_bus.specs.Kinds.{kind_of}
 use Rattle.vme_bus.specs.States.{IsStateOf}
-use Rattle.vme_trace.specs.declared.Fault.{Fault}
-use Rattle.vme_trace.specs.declared.Fault.TheVariants.{Memory, Write}
-use Rattle.vme_trace.specs.Writing.{AppendsFront}
 use Rattle.vme_reading.specs.Outcomes.{bench}
-use Rattle.vme_reading.proofs.KeptEdges.{edges_on, kept_plan, kept_version, next_list, numbered_append}
-use Rattle.vme_reading.proofs.WrittenLines.{front_behind, kept_append}
-use Rattle.vme_races.specs.declared.judge.Reporting.{Reporting}
+use Rattle.vme_reading.proofs.KeptEdges.{edges_on, kept_plan, kept_version, numbered_append}
+use Rattle.vme_reading.proofs.WrittenLines.{kept_append}
 use Rattle.vme_races.specs.declared.racing.Counts.{Counts}
 use Rattle.vme_races.specs.declared.racing.Racing.{Racing}
 use Rattle.vme_races.specs.declared.walks.Walk.{Walk}
 use Rattle.vme_races.specs.Walks.{AreWalks, IsWalk}
 use Rattle.vme_races.specs.Lines.{count_if, free_in, is_back, race_line, race_lines, races_in, waits_in}
 use Rattle.vme_swaps.specs.Stops.{is_race, is_wait}
-use Rattle.vme_races.specs.Outcomes.{AreLines}
 use Rattle.vme_races.specs.Kinds.{IsKindOf, IsOnPlan}
-use Rattle.vme_races.specs.Kept.{Advances, AreLast, Breaks, IsCounted, IsKept, Stands}
+use Rattle.vme_races.specs.Kept.{Advances, AreLast, IsCounted, IsKept}
 
 -- ---- how many walks there are
 
@@ -243,51 +235,3 @@ pub kind_there : (p : Plan) (v : Version) (es : List Edge) (b : State) (s : BusS
     → b ≡ kept (bench p v) es → IsStateOf b.version b.plan b.history s → kind ≡ kind_of s
     → IsKindOf v p (edges_in (numbered (bench p v) es)) kind
 kind_there p v es b s kind is state of = (s, state_there p v es b s is state, sym of)
-
--- ---- in the loop over edges
-
-module _ (p : Plan) (v : Version) (before es : List Edge) (i : ℕ) (d : Edge) (h : i < length es)
-    (first a b : Option (List ℕ)) (old now : Reporting) (line : List ℕ)
-    (count : now.judged ≡ old.judged + 1)
-    (on : (walks : List Walk) → IsKept p v (before ++ take i es) walks old.racing
-    → old.judged + 1 ≡ length (before ++ take i es) + 1
-    → Advances p v (before ++ take i es) walks (get_or es i d) line now.racing)
-    (stands : Stands p v (before ++ take i es) first a old) where
-  next : Advances p v (before ++ take i es) stands.0 (get_or es i d) line now.racing
-  next = on stands.0 stands.1 (ap (λ n. n + 1) stands.2)
-
-  pub stands_next : Appends a b line → Stands p v (before ++ take (i + 1) es) first b now
-  stands_next more =
-      let longer = length-append (before ++ take i es) (get_or es i d ∷ []) in
-      subst (λ (l : List Edge). Stands p v l first b now) (next_list before es i d h) (
-        next.0,
-        next.1,
-        count ∙ ap (λ n. n + 1) stands.2 ∙ sym longer,
-        subst (Appends first b) (sym next.2)
-            (Appends-trans first a b (race_lines (numbered (bench p v) (before ++ take i es)) stands.0)
-            line stands.3 more),
-      )
-
-  -- the line was cut off
-  pub breaks_cut : (f : Fault) → f ≡ Write → AppendsFront a b line → Breaks p v before es first b f
-  breaks_cut f is more = (
-    take (i + 1) es,
-    drop (i + 1) es,
-    sym (take-append-drop (i + 1) es),
-    race_lines (numbered (bench p v) ((before ++ take i es) ++ get_or es i d ∷ [])) next.0,
-    subst (λ (l : List Edge). AreLines p (Some v) l (race_lines (numbered (bench p v) ((before ++ take i es) ++ get_or es i d ∷ [])) next.0))
-        (next_list before es i d h) (next.0, next.1.walked, refl),
-    inr (is, subst (AppendsFront first b) (sym next.2) (front_behind first a b (race_lines (numbered (bench p v) (before ++ take i es)) stands.0) line stands.3 more)),
-  )
-
--- there was no memory for the next edge
-pub breaks_unheld : (p : Plan) (v : Version) (before es : List Edge) (i : ℕ) (first a : Option (List ℕ)) (old : Reporting)
-    → Stands p v (before ++ take i es) first a old → (f : Fault) → f ≡ Memory → Breaks p v before es first a f
-breaks_unheld p v before es i first a old stands f is = (
-  take i es,
-  drop i es,
-  sym (take-append-drop i es),
-  race_lines (numbered (bench p v) (before ++ take i es)) stands.0,
-  (stands.0, stands.1.walked, refl),
-  inl (is, stands.3),
-)

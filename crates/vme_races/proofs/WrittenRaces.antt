@@ -1,122 +1,100 @@
 -- What is written of a trace.
-use Rattle.std.proofs.Common.{◌≡◌, inl, inr, ◌-◌, ◌++◌, [], ℕ, Bool, false, List, Option, Some, Result, Ok, Err, length, refl, sym, ◌∙◌, ap, append_assoc, subst, arith}
+use Rattle.std.proofs.Common.{◌≡◌, inl, inr, ◌+◌, ◌-◌, ◌++◌, ◌∷◌, [], ℕ, List, Option, Some, None, Result, Ok, Err, length, refl, sym, ◌∙◌, ap, subst, arith}
 use Rattle.std.specs.Io.KnownBytes.{Appends, Keeps}
 use Rattle.std.proofs.KnownBytes.{Appends-trans, Appends-kept}
+use Rattle.std.proofs.Math.ListN.{length-append}
 use Rattle.std.proofs.lemmas.List.{length-map}
 use Rattle.vme_model.specs.declared.signals.Edge.{Edge}
 use Rattle.vme_model.specs.declared.signals.Version.{Version}
 use Rattle.vme_model.specs.Numbered.{numbered}
 use Rattle.vme_model.specs.Plan.{Plan}
-use Rattle.vme_model.specs.Text.{Reading, read_of}
+use Rattle.vme_model.specs.Text.{read_of}
 use Rattle.vme_model.specs.Verdict.{kept}
 use Rattle.vme_trace.specs.declared.Fault.{Fault}
-use Rattle.vme_trace.specs.declared.Fault.TheVariants.{Write}
+use Rattle.vme_trace.specs.declared.Fault.TheVariants.{Memory}
 use Rattle.vme_trace.specs.Writing.{AppendsFront}
 use Rattle.vme_reading.specs.declared.Status.{Status}
-use Rattle.vme_reading.specs.declared.EngineFault.TheVariants as fault
-use Rattle.vme_reading.specs.Streams.{Streams, Wrote, streams}
-use Rattle.vme_reading.specs.Outcomes.{bench, refused_count, status_of, status_with}
-use Rattle.vme_reading.specs.Pieces.{Came}
-use Rattle.vme_reading.specs.Readings.{LeavesNow}
+use Rattle.vme_reading.specs.Streams.{Streams, Wrote}
+use Rattle.vme_reading.specs.Outcomes.{bench, refused_count}
+use Rattle.vme_reading.specs.Reporting.{AreLinesAt, HasWritten, HasWrittenFront, IsTextOf, ReportsEach, Writes}
 use Rattle.vme_reading.specs.Steps.{traced}
 use Rattle.vme_reading.specs.Waiting.{StopsWaiting}
 use Rattle.vme_reading.proofs.KeptEdges.{edges_on}
-use Rattle.vme_reading.proofs.ReadOn.{came_begins}
-use Rattle.vme_reading.proofs.Waits.{waits_now}
-use Rattle.vme_reading.proofs.WrittenLines.{front_behind, front_kept, front_of_all}
+use Rattle.vme_reading.proofs.Waits.{stops_as}
+use Rattle.vme_reading.proofs.WrittenLines.{front_behind, front_of_all}
 use Rattle.vme_races.specs.declared.judge.Reporting.{Reporting}
 use Rattle.vme_races.specs.declared.racing.Racing.{Racing}
 use Rattle.vme_races.specs.declared.walks.Walk.{Walk}
 use Rattle.vme_races.specs.Lines.{counts_text, last_line, race_lines, races_in, waits_in}
 use Rattle.vme_races.specs.Outcomes.{AreLines, IsText, Reports}
-use Rattle.vme_races.specs.Kept.{Breaks, Ends, EndsCut, IsKept, Stands}
+use Rattle.vme_races.specs.Kept.{Advances, IsKept, IsKnown}
 
--- what a judge that waits for the end has left
-abbrev Waits : Plan → Streams → Option Version → List Edge → Type 0
-Waits p s version es = (bytes : List ℕ) × AreLines p version es bytes × Wrote s bytes
+-- what `at_each` is told
+abbrev pub Lines : Writes
+Lines p v es bytes = AreLines p (Some v) es bytes
 
--- ---- at a fault among the edges of a piece
+abbrev pub Text : Writes
+Text p v es bytes = IsText p (Some v) es bytes
 
-module _ (p : Plan) (v : Version) (before es : List Edge) (more : Result Bool Fault) (old new : Option (List ℕ)) (f : Fault)
-    (breaks : Breaks p v before es old new f) where
-  module _ (trace : List ℕ) (from to : Option (List ℕ)) (version : (read_of trace).version ≡ Some v) (others : List Edge)
-      (edges : (read_of trace).edges ≡ (before ++ es) ++ others) where
-    edges_so : (read_of trace).edges ≡ (before ++ breaks.0) ++ (breaks.1 ++ others)
-    edges_so =
-        edges ∙ ap (λ l. (before ++ l) ++ others) breaks.2
-        ∙ ap (λ l. l ++ others) (sym (append_assoc before breaks.0 breaks.1))
-        ∙ append_assoc (before ++ breaks.0) breaks.1 others
+-- ---- what it leaves
 
-    lines_so : AreLines p (read_of trace).version (before ++ breaks.0) breaks.3
-    lines_so = subst (λ (w : Option Version). AreLines p w (before ++ breaks.0) breaks.3) (sym version) breaks.4
+module _ (p : Plan) where
+  lines_are : (w : Option Version) (es : List Edge) (bytes : List ℕ) → AreLinesAt Lines p w es bytes → AreLines p w es bytes
+  lines_are None es bytes is = is
+  lines_are (Some v) es bytes is = is
 
-    pub broken : Reports p trace (streams from to old new) (Err (fault.Trace f))
-    broken = elim breaks.5 [
-      | inl memory ↦ inl (subst (λ (g : Fault). StopsWaiting (Waits p (streams from to old new)) trace (streams from to old new) g) (sym memory.0)
-          (before ++ breaks.0, breaks.1 ++ others, edges_so, (breaks.3, lines_so, memory.1)))
-      | inr write ↦ inr (write.0, inl (before ++ breaks.0, breaks.1 ++ others, edges_so, breaks.3, lines_so, write.1))
-    ]
+  text_is : (w : Option Version) (es : List Edge) (bytes : List ℕ) → IsTextOf Text p w es bytes → IsText p w es bytes
+  text_is None es bytes is = is
+  text_is (Some v) es bytes is = is
 
-  pub broken_now : LeavesNow (λ trace s a. Reports p trace s (traced a)) v (before ++ es) more old new (Err f)
-  broken_now = λ trace from to came.
-      let begins = came_begins v trace from to (before ++ es) more came in
-      broken trace from to begins.version begins.others begins.edges
+module _ (p : Plan) (trace : List ℕ) (s : Streams) where
+  abbrev Waits : Option Version → List Edge → Type 0
+  Waits w es = (bytes : List ℕ) × AreLines p w es bytes × Wrote s bytes
 
--- ---- by the last piece
-
-module _ (p : Plan) (v : Version) (es : List Edge) (more : Result Bool Fault) (old mid new : Option (List ℕ)) (now : Reporting) where
-  module _ (stands : Stands p v es old mid now) where
-    pub unflushed_now : (f : Fault) → f ≡ Write → Keeps mid new → LeavesNow (λ trace s a. Reports p trace s (traced a)) v es more old new (Err f)
-    unflushed_now f is keeps = λ trace from to came.
-        let begins = came_begins v trace from to es more came in
-        let bytes = race_lines (numbered (bench p v) es) stands.0 in
-        inr (
-          is,
-          inl (
-            es,
-            begins.others,
-            begins.edges,
-            bytes,
-            subst (λ (w : Option Version). AreLines p w es bytes) (sym begins.version) (stands.0, stands.1.walked, refl),
-            front_kept old mid new bytes stands.3 keeps,
-          ),
-        )
-
-    pub stop_now : (f : Fault) → more ≡ Err f → Keeps mid new → LeavesNow (λ trace s a. Reports p trace s (traced a)) v es more old new (Err f)
-    stop_now f is keeps = λ trace from to came.
-        let bytes = race_lines (numbered (bench p v) es) stands.0 in
-        inl (waits_now (Waits p (streams from to old new)) v trace (streams from to old new) es more came
-        (bytes, (stands.0, stands.1.walked, refl), Appends-kept old mid new bytes stands.3 keeps) f is)
-
-    pub stands_kept : Keeps mid new → Stands p v es old new now
-    stands_kept keeps = (stands.0, stands.1, stands.2, Appends-kept old mid new (race_lines (numbered (bench p v) es) stands.0) stands.3 keeps)
-
-  at_end : (trace : List ℕ) (from to : Option (List ℕ)) → more ≡ Ok false → Came v trace from to es more → Came v trace from to es (Ok false)
-  at_end trace from to is came = subst (Came v trace from to es) is came
-
-  text_is : (r : Reading) (bytes : List ℕ) → r.version ≡ Some v → r.edges ≡ es → IsText p (Some v) es bytes → IsText p r.version r.edges bytes
-  text_is r bytes version edges text =
-      subst (λ (w : Option Version). IsText p w r.edges bytes) (sym version)
-      (subst (λ (l : List Edge). IsText p (Some v) l bytes) (sym edges) text)
-
-  status_is : (r : Reading) → r.version ≡ Some v → r.edges ≡ es → status_with (refused_count p (Some v) es) ≡ status_of p r
-  status_is r version edges = ap (λ w. status_with (refused_count p w es)) (sym version) ∙ ap (λ l. status_with (refused_count p r.version l)) (sym edges)
-
-  pub end_now : (status : Status) → more ≡ Ok false → status ≡ status_with (refused_count p (Some v) es) → Ends p v es old new
-      → LeavesNow (λ trace s a. Reports p trace s (traced a)) v es more old new (Ok status)
-  end_now status is done ends = λ trace from to came.
-      let end = at_end trace from to is came in (
-        end.2,
-        end.3,
-        (ends.0, text_is (read_of trace) ends.0 end.0.version end.1 ends.1, ends.2),
-        done ∙ status_is (read_of trace) end.0.version end.1,
+  pub reported : (answer : Result Status Fault) → ReportsEach Lines Text (λ f. f ≡ Memory) p trace s answer → Reports p trace s (traced answer)
+  reported (Ok status) h = (h.0, h.1, (h.2.0, text_is p (read_of trace).version (read_of trace).edges h.2.0 h.2.1, h.2.2), h.3)
+  reported (Err f) h = elim h [
+    | inl waits ↦ inl (stops_as (λ w es. (bytes : List ℕ) × AreLinesAt Lines p w es bytes × Wrote s bytes) Waits
+        (λ w es has. (has.0, lines_are p w es has.0 has.1, has.2)) trace s f waits)
+    | inr other ↦ elim other [
+      | inl own ↦ inl (subst (λ (g : Fault). StopsWaiting Waits trace s g) (sym own.0)
+          (own.1.0, own.1.1, own.1.2, (own.1.3, lines_are p (read_of trace).version own.1.0 own.1.3 own.1.4, own.1.5)))
+      | inr write ↦ inr (
+        write.0,
+        elim write.1 [
+          | inl cut ↦ inl (cut.0, cut.1, cut.2, cut.3, lines_are p (read_of trace).version cut.0 cut.3 cut.4, cut.5)
+          | inr text ↦ inr (text.1, text_is p (read_of trace).version (read_of trace).edges text.1 text.2, text.3)
+        ],
       )
+    ]
+  ]
 
-  pub end_cut_now : (f : Fault) → more ≡ Ok false → f ≡ Write → EndsCut p v es old new
-      → LeavesNow (λ trace s a. Reports p trace s (traced a)) v es more old new (Err f)
-  end_cut_now f is write cut = λ trace from to came.
-      let end = at_end trace from to is came in
-      inr (write, inr (cut.0, text_is (read_of trace) cut.0 end.0.version end.1 cut.1, cut.2))
+-- ---- one more edge
+
+module _ (p : Plan) (v : Version) (es : List Edge) (first a : Option (List ℕ)) (old : Reporting)
+    (known : HasWritten (λ p v es bytes. IsKnown p v es bytes old) p v es first a) where
+  -- its lines so far
+  pub lines_known : HasWritten Lines p v es first a
+  lines_known = (known.0, (known.1.0, known.1.1.walked, known.1.3), known.2)
+
+  module _ (e : Edge) (line : List ℕ) (b : Option (List ℕ)) (now : Racing)
+      (on : (walks : List Walk) → IsKept p v es walks old.racing → old.judged + 1 ≡ length es + 1 → Advances p v es walks e line now) where
+    next : Advances p v es known.1.0 e line now
+    next = on known.1.0 known.1.1 (ap (λ n. n + 1) known.1.2)
+
+    behind : known.0 ++ line ≡ race_lines (numbered (bench p v) (es ++ e ∷ [])) next.0
+    behind = ap (λ l. l ++ line) known.1.3 ∙ sym next.2
+
+    pub next_known : Appends a b line
+        → HasWritten (λ p v es bytes. IsKnown p v es bytes (record { racing = now; judged = old.judged + 1 })) p v (es ++ e ∷ []) first b
+    next_known more = (
+      known.0 ++ line,
+      (next.0, next.1, ap (λ n. n + 1) known.1.2 ∙ sym (length-append es (e ∷ [])), behind),
+      Appends-trans first a b known.0 line known.2 more,
+    )
+
+    pub next_cut : AppendsFront a b line → HasWrittenFront Lines p v (es ++ e ∷ []) first b
+    next_cut more = (known.0 ++ line, (next.0, next.1.walked, behind), front_behind first a b known.0 line known.2 more)
 
 -- ---- the last line
 
@@ -140,29 +118,20 @@ module _ (p : Plan) (v : Version) (es : List Edge) (walks : List Walk) (now : Ra
       let none : length (kept (bench p v) es).history - 0 ≡ length (kept (bench p v) es).history = omega arith in
       ap (λ n. n - length now.bus.history) count ∙ ap (λ s. length es - length s.history) is.bus ∙ ap (λ n. length es - n) (sym none)
 
-module _ (p : Plan) (v : Version) (es : List Edge) (first old new : Option (List ℕ)) (now : Reporting) (stands : Stands p v es first old now) (line : List ℕ)
+module _ (p : Plan) (v : Version) (es : List Edge) (first old new : Option (List ℕ)) (now : Reporting)
+    (known : HasWritten (λ p v es bytes. IsKnown p v es bytes now) p v es first old) (line : List ℕ)
     (is : line ≡ counts_text (length now.racing.bus.history) now.racing.counts.races now.racing.counts.waits now.racing.counts.free) where
-  line_is : line ≡ last_line (numbered (bench p v) es) stands.0
-  line_is = is ∙ last_is p v es stands.0 now.racing stands.1
+  whole : IsText p (Some v) es (known.0 ++ line)
+  whole =
+      let last = is ∙ last_is p v es known.1.0 now.racing known.1.1 in
+      (known.1.0, known.1.1.walked, λ i. known.1.3 i ++ last i)
 
-  pub ends : (next : Option (List ℕ)) → Appends old next line → Keeps next new → Ends p v es first new
-  ends next wrote keeps =
-      let lines = race_lines (numbered (bench p v) es) stands.0 in (
-        lines ++ last_line (numbered (bench p v) es) stands.0,
-        (stands.0, stands.1.walked, refl),
-        Appends-kept first next new (lines ++ last_line (numbered (bench p v) es) stands.0)
-            (Appends-trans first old next lines (last_line (numbered (bench p v) es) stands.0) stands.3 (subst (Appends old next) line_is wrote)) keeps,
-      )
+  pub ends : (mid : Option (List ℕ)) → Appends old mid line → Keeps mid new → HasWritten Text p v es first new
+  ends mid wrote keeps =
+      (known.0 ++ line, whole, Appends-kept first mid new (known.0 ++ line) (Appends-trans first old mid known.0 line known.2 wrote) keeps)
 
-  pub ends_unflushed : (next : Option (List ℕ)) → Appends old next line → Keeps next new → EndsCut p v es first new
-  ends_unflushed next wrote keeps =
-      let all = ends next wrote keeps in
-      (all.0, all.1, front_of_all first new all.0 all.2)
+  pub ends_unflushed : (mid : Option (List ℕ)) → Appends old mid line → Keeps mid new → HasWrittenFront Text p v es first new
+  ends_unflushed mid wrote keeps = let all = ends mid wrote keeps in (all.0, all.1, front_of_all first new all.0 all.2)
 
-  pub ends_cut : AppendsFront old new line → EndsCut p v es first new
-  ends_cut wrote =
-      let lines = race_lines (numbered (bench p v) es) stands.0 in (
-        lines ++ last_line (numbered (bench p v) es) stands.0,
-        (stands.0, stands.1.walked, refl),
-        front_behind first old new lines (last_line (numbered (bench p v) es) stands.0) stands.3 (subst (AppendsFront old new) line_is wrote),
-      )
+  pub ends_cut : AppendsFront old new line → HasWrittenFront Text p v es first new
+  ends_cut wrote = (known.0 ++ line, whole, front_behind first old new known.0 line known.2 wrote)

@@ -1,14 +1,10 @@
 -- What is kept of the edges so far.
-use Rattle.std.specs.Prelude.{◌≡◌, ◌⊎◌, ◌+◌, ◌<◌, ◌≤◌, ◌++◌, ◌∷◌, [], ℕ, true, false, List, length, min, Option, Some, None}
-use Rattle.std.specs.Io.KnownBytes.{Appends}
+use Rattle.std.specs.Prelude.{◌≡◌, ◌+◌, ◌<◌, ◌≤◌, ◌++◌, ◌∷◌, [], ℕ, true, false, List, length, min, Option, Some, None}
 use Rattle.vme_model.specs.declared.signals.Version.{Version}
 use Rattle.vme_model.specs.declared.signals.Edge.{Edge}
 use Rattle.vme_model.specs.Plan.{Plan}
 use Rattle.vme_model.specs.Numbered.{Numbered, edges_in, numbered}
 use Rattle.vme_model.specs.Verdict.{kept}
-use Rattle.vme_trace.specs.declared.Fault.{Fault}
-use Rattle.vme_trace.specs.declared.Fault.TheVariants.{Memory, Write}
-use Rattle.vme_trace.specs.Writing.{AppendsFront}
 use Rattle.vme_reading.specs.Outcomes.{bench}
 use Rattle.vme_races.specs.declared.judge.Reporting.{Reporting}
 use Rattle.vme_races.specs.declared.earlier.Earlier.{Earlier}
@@ -21,7 +17,6 @@ use Rattle.vme_races.specs.Walks.{AreWalks}
 use Rattle.vme_swaps.specs.Stops.{most_passed}
 use Rattle.vme_races.specs.Kinds.{IsKindOf, IsOnPlan}
 use Rattle.vme_races.specs.Lines.{free_in, race_line, race_lines, races_in, waits_in}
-use Rattle.vme_races.specs.Outcomes.{AreLines, IsText}
 
 -- ---- the last accepted edges
 
@@ -83,27 +78,8 @@ Advances p v es walks e line now =
     × (race_lines (numbered (bench p v) (es ++ e ∷ [])) others
     ≡ race_lines (numbered (bench p v) es) walks ++ line)
 
--- ---- what was written since the first edge
-
--- the lines of these edges were written
-abbrev pub Stands :
-    Plan → Version → List Edge → Option (List ℕ) → Option (List ℕ) → Reporting → Type 0
-Stands p v es old new now =
+-- these edges were taken in and counted, and these are their lines
+abbrev pub IsKnown : Plan → Version → List Edge → List ℕ → Reporting → Type 0
+IsKnown p v es bytes now =
     (walks : List Walk) × IsKept p v es walks now.racing × (now.judged ≡ length es)
-    × Appends old new (race_lines (numbered (bench p v) es) walks)
-
--- a fault came at one of these edges
-abbrev pub Breaks :
-    Plan → Version → List Edge → List Edge → Option (List ℕ) → Option (List ℕ) → Fault → Type 0
-Breaks p v before es old new f =
-    (front : List Edge) × (rest : List Edge) × (es ≡ front ++ rest)
-    × (bytes : List ℕ) × AreLines p (Some v) (before ++ front) bytes
-    × (((f ≡ Memory) × Appends old new bytes) ⊎ ((f ≡ Write) × AppendsFront old new bytes))
-
--- all was written, or a prefix
-abbrev pub Ends : Plan → Version → List Edge → Option (List ℕ) → Option (List ℕ) → Type 0
-Ends p v es old new = (bytes : List ℕ) × IsText p (Some v) es bytes × Appends old new bytes
-
-abbrev pub EndsCut : Plan → Version → List Edge → Option (List ℕ) → Option (List ℕ) → Type 0
-EndsCut p v es old new =
-    (bytes : List ℕ) × IsText p (Some v) es bytes × AppendsFront old new bytes
+    × (bytes ≡ race_lines (numbered (bench p v) es) walks)

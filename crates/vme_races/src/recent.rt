@@ -51,8 +51,8 @@ impl Recent {
         }
     }
 
-    /// How far back the next edge goes, if it is accepted. The state is one of the plan, which is set
-    /// to that before each edge on the way.
+    /// How far back the next edge goes, if it is accepted. The state is one of the plan, which is
+    /// set to that before each edge on the way.
     pub(crate) fn walk(&self, state: &mut BusState, edge: &Edge) -> Walk
         ensures walk { OfLast self.now (λ v p k. IsOnPlan v p state.old
             → IsLegal v p (edge.now ∷ edges_in k) → IsWalk v p edge.now k result) }

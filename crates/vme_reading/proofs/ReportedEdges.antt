@@ -1,7 +1,7 @@
 -- A command that writes lines at each edge of a trace, and last lines at its end.
-use Rattle.std.proofs.Common.{◌≡◌, inl, inr, ◌+◌, ◌<◌, ◌++◌, ◌∷◌, [], ℕ, Bool, false, List, Option, Some, None, Result, Ok, Err, drop, get_or, length, take, refl, sym, ◌∙◌, ap, append_assoc, subst}
+use Rattle.std.proofs.Common.{◌≡◌, inl, inr, ◌+◌, ◌<◌, ◌++◌, ◌∷◌, [], ℕ, Bool, false, List, Option, Some, Result, Ok, Err, drop, get_or, length, take, sym, ◌∙◌, ap, append_assoc, subst}
 use Rattle.std.specs.Io.KnownBytes.{Appends, Keeps}
-use Rattle.std.proofs.KnownBytes.{Appends-kept, Appends-nil}
+use Rattle.std.proofs.KnownBytes.{Appends-kept}
 use Rattle.std.proofs.lemmas.List.{take-append-drop}
 use Rattle.vme_model.specs.declared.signals.Edge.{Edge}
 use Rattle.vme_model.specs.declared.signals.Version.{Version}
@@ -10,17 +10,17 @@ use Rattle.vme_model.specs.Text.{read_of}
 use Rattle.vme_trace.specs.declared.Fault.{Fault}
 use Rattle.vme_trace.specs.declared.Fault.TheVariants.{Write}
 use Rattle.vme_reading.specs.declared.Status.{Status}
-use Rattle.vme_reading.specs.Streams.{Streams, WroteNothing, streams}
-use Rattle.vme_reading.specs.Streams as stream
-use Rattle.vme_reading.specs.Outcomes.{refused_count, status_with}
-use Rattle.vme_reading.specs.Begun.{IsUnread}
+use Rattle.vme_reading.specs.Streams.{streams}
+use Rattle.vme_reading.specs.declared.EngineFault.{EngineFault}
+use Rattle.vme_reading.specs.declared.EngineFault.TheVariants as fault
+use Rattle.vme_reading.specs.Outcomes.{Answer, LentAsking, refused_count, status_with}
 use Rattle.vme_reading.specs.Pieces.{Came}
-use Rattle.vme_reading.specs.Readings.{LeavesNow}
-use Rattle.vme_reading.specs.Waiting.{StopsWaiting}
+use Rattle.vme_reading.specs.Readings.{LeavesNow, ReadsLent}
+use Rattle.vme_reading.specs.Steps.{traced}
 use Rattle.vme_reading.specs.Reporting.{AreLinesAt, HasWritten, HasWrittenFront, IsTextOf, ReportsEach, StopsAmong, StopsAt, Writes}
 use Rattle.vme_reading.proofs.ReadOn.{came_begins}
-use Rattle.vme_reading.proofs.SoughtEdges.{next_list}
-use Rattle.vme_reading.proofs.Waits.{stops_unread, waits_now}
+use Rattle.vme_reading.proofs.KeptEdges.{next_list}
+use Rattle.vme_reading.proofs.Waits.{waits_now}
 use Rattle.vme_reading.proofs.WrittenLines.{front_kept}
 
 -- ---- in the loop over edges
@@ -95,6 +95,7 @@ module _ (Lines Text : Writes) (Fails : Fault → Type 0) (p : Plan) (v : Versio
         inr (inr (
           write,
           inr (
+            end.2,
             wrote.0,
             subst (λ (w : Option Version). IsTextOf Text p w (read_of trace).edges wrote.0) (sym end.0.version)
                 (subst (λ (l : List Edge). Text p v l wrote.0) (sym end.1) wrote.1),
@@ -118,3 +119,19 @@ module _ (Lines Text : Writes) (Fails : Fault → Type 0) (p : Plan) (v : Versio
           status_is ∙ ap (λ (l : List Edge). status_with (refused_count p (Some v) l)) (sym end.1)
               ∙ ap (λ (w : Option Version). status_with (refused_count p w (read_of trace).edges)) (sym end.0.version),
         )
+
+-- ---- a command that says in its own words what it leaves
+
+pub lent_as : (text : List ℕ) (nothing : Type 0) (Leaves : Plan → Result Status Fault → Type 0)
+    (Runs : Plan → Answer → Type 0)
+    → ((p : Plan) (answer : Result Status Fault) → Leaves p answer → Runs p (traced answer))
+    → (r : Result Status EngineFault) → ReadsLent text nothing Leaves r
+    → LentAsking text nothing Runs r
+lent_as text nothing Leaves Runs turn (Ok status) h = (h.0, h.1, h.2, turn h.0 (Ok status) h.3)
+lent_as text nothing Leaves Runs turn (Err (fault.Trace f)) h =
+    (h.0, h.1, h.2, turn h.0 (Err f) h.3)
+lent_as text nothing Leaves Runs turn (Err fault.TooLong) h = h
+lent_as text nothing Leaves Runs turn (Err (fault.Scenario e)) h = h
+lent_as text nothing Leaves Runs turn (Err fault.NoMemory) h = h
+lent_as text nothing Leaves Runs turn (Err fault.CannotRead) h = absurd h
+lent_as text nothing Leaves Runs turn (Err (fault.Beyond n)) h = absurd h

@@ -31,3 +31,18 @@ pub waits_now : (Waits : Option Version → List Edge → Type 0) (v : Version) 
     → Waits (Some v) es → (f : Fault) → more ≡ Err f → StopsWaiting Waits all s f
 waits_now Waits v all s es more came waits f is =
     let end : Came v all s.from s.to es (Err f) = subst (Came v all s.from s.to es) is came in stops_waiting Waits v all s es end.0 waits f end.1
+
+-- ---- of which more is known
+
+module _ (Waits Others : Option Version → List Edge → Type 0)
+    (turn : (version : Option Version) (es : List Edge) → Waits version es → Others version es)
+    (trace : List ℕ) (s : Streams) where
+  pub stops_as : (f : Fault) → StopsWaiting Waits trace s f → StopsWaiting Others trace s f
+  stops_as Header h = (h.0, turn (read_of trace).version (read_of trace).edges h.1)
+  stops_as (Line n) h = (h.0, turn (read_of trace).version (read_of trace).edges h.1)
+  stops_as (TooLong n) h = (h.0, turn (read_of trace).version (read_of trace).edges h.1)
+  stops_as CutOff h = (h.0, turn (read_of trace).version (read_of trace).edges h.1)
+  stops_as Read h = (h.0, h.1, h.2, turn (read_of h.0).version (read_of h.0).edges h.3)
+  stops_as Memory h = (h.0, h.1, h.2, turn (read_of trace).version h.0 h.3)
+  stops_as Failed h = absurd h
+  stops_as Write h = absurd h

@@ -34,8 +34,8 @@ StopsBetween Lines p r Wrote =
     × (bytes : List ℕ) × AreLinesAt Lines p r.version es bytes × Wrote bytes
 
 -- What is left of a trace on a plan: the whole text; at a fault of the trace, or one of the
--- command's own, the lines at the edges before it; at X8 a prefix of the text, or of the lines at
--- the edges that the trace begins with.
+-- command's own, the lines at the edges before it; at X8 a prefix of the lines at the edges that
+-- the trace begins with, or of the text, if the trace has no fault.
 abbrev pub ReportsEach :
     Writes → Writes → (Fault → Type 0) → Plan → List ℕ → Streams → Result Status Fault → Type 0
 ReportsEach Lines Text Fails p trace s (Ok status) =
@@ -48,7 +48,8 @@ ReportsEach Lines Text Fails p trace s (Err f) =
     × Wrote s bytes) trace s f
     ⊎ ((Fails f × StopsBetween Lines p (read_of trace) (λ bytes. Wrote s bytes))
     ⊎ ((f ≡ Write) × (StopsBetween Lines p (read_of trace) (λ bytes. WroteFront s bytes)
-    ⊎ ((bytes : List ℕ) × IsTextOf Text p (read_of trace).version (read_of trace).edges bytes
+    ⊎ (((read_of trace).fault ≡ None)
+    × (bytes : List ℕ) × IsTextOf Text p (read_of trace).version (read_of trace).edges bytes
     × WroteFront s bytes))))
 
 -- ---- behind these edges

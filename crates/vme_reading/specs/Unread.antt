@@ -1,6 +1,6 @@
 -- What is left of a trace without a header line. These are lemmas, which the laws of `Judge` cite:
 -- a law cites what stands in `specs`. They are proved, and no result rests on what they mean.
-use Rattle.std.proofs.Common.{◌≡◌, inl, ℕ, List, [], Option, Some, None, Err, refl, sym, subst}
+use Rattle.std.proofs.Common.{inl, ℕ, List, [], Option, Some, None, Err, refl, sym, subst}
 use Rattle.std.proofs.KnownBytes.{Appends-kept, Appends-nil}
 use Rattle.vme_model.specs.declared.signals.Version.{Version}
 use Rattle.vme_model.specs.declared.signals.Edge.{Edge}
@@ -40,11 +40,11 @@ unasked_unread : (asked : Option ℕ) (p : Plan) → IsUnasked asked p None []
 unasked_unread (Some n) p = λ some. some
 unasked_unread None p = refl
 
-pub seeks_unread : {A : Type 0} (Writes : Writing A) (Fails : Fault → Type 0) (asked : Option ℕ)
+pub seeks_unread : {A : Type 0} (At : Writing A) (Fails : Fault → Type 0) (asked : Option ℕ)
     (p : Plan) (trace : List ℕ) (s : Streams) (f : Fault) → WroteNothing s
     → StopsWaiting IsUnread trace (streams s.from s.to None None) f
-    → SeeksEdge Writes Fails asked p trace s (Err f)
-seeks_unread Writes Fails asked p trace s f kept h =
+    → SeeksEdge At Fails asked p trace s (Err f)
+seeks_unread At Fails asked p trace s f kept h =
     inl (stops_unread (IsUnasked asked p) (unasked_unread asked p) trace s f h, kept)
 
 pub reports_unbegun : (Lines Text : Writes) (Fails : Fault → Type 0) (p : Plan) (trace : List ℕ)
@@ -52,5 +52,6 @@ pub reports_unbegun : (Lines Text : Writes) (Fails : Fault → Type 0) (p : Plan
     → StopsWaiting IsUnread trace (streams s.from s.to None None) f
     → ReportsEach Lines Text Fails p trace s (Err f)
 reports_unbegun Lines Text Fails p trace s f nothing h =
-    inl (stops_unread (λ version es. (bytes : List ℕ) × AreLinesAt Lines p version es bytes × Wrote s bytes)
+    inl (stops_unread (λ version es. (bytes : List ℕ) × AreLinesAt Lines p version es bytes
+    × Wrote s bytes)
     ([], refl, Appends-kept s.old s.old s.new [] (Appends-nil s.old) nothing) trace s f h)

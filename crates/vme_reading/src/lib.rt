@@ -20,7 +20,7 @@ mod traces;
 mod writing;
 
 pub use pairs::{Pair, PairFault, read_pair};
-pub use pieces::{JUDGED_AT_ONCE, buffer_of};
+pub use pieces::{JUDGED_AT_ONCE, buffer_of, has_paused};
 pub use plans::plan_of;
 pub use readings::{Judge, read, read_on};
 pub use reporting::{AtEach, at_each};
@@ -40,6 +40,9 @@ pub const READS: u32 = 16_777_216;
 /// How many bytes of a trace are asked for at once: more than a pipe or a terminal has waiting, so
 /// that their pieces are short. Of a file the last piece alone is.
 const PIECE: usize = 69_632;
+
+/// F5, as the engines say it that look for an order of edges.
+pub const TOO_MANY_ORDERS: &str = "F5 too many orders";
 
 /// How an engine ended that met no fault.
 #[derive(Clone, Copy, PartialEq, Eq, Debug)]

@@ -27,7 +27,7 @@ pub fn buffer_of(alloc: Global) -> Result<Vec<u8>, EngineFault>
 
 /// Whether whoever writes the trace may wait behind a read that gave so many bytes: nothing else
 /// was waiting, or they end with a whole line.
-pub(crate) fn has_paused(buffer: &[u8], count: usize) -> bool
+pub fn has_paused(buffer: &[u8], count: usize) -> bool
     ensures paused { IsTrue result ↔ ((count < length buffer.now)
         ⊎ (slice_get buffer.now (length buffer.now - 1) ≡ Some 10)) }
 {

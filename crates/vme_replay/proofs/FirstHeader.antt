@@ -80,7 +80,8 @@ names_by false false part one two h e = cc
 
 pub unnamed : (part : List ℕ) → version_of (take 6 part) ≡ None → names part ≡ false
 unnamed part h =
-    false_from_ne_true (names part) (names_by (bytes_eq part (codes "vme 1")) (bytes_eq part (codes "vme 2")) part (bytes_eq-Decides part (codes "vme 1")).0 (bytes_eq-Decides part (codes "vme 2")).0 h)
+    false_from_ne_true (names part) (names_by (bytes_eq part (codes "vme 1")) (bytes_eq part (codes "vme 2")) part (bytes_eq-Decides part (codes "vme 1")).0
+    (bytes_eq-Decides part (codes "vme 2")).0 h)
 
 pub one_line_more : (part : List ℕ) (b : ℕ) → IsOneLine part → b ≢ 10 → IsOneLine (part ++ b ∷ [])
 one_line_more [] b h ne = (ne, tt)

@@ -93,7 +93,8 @@ joins_found from at to old new bytes piece n f v answer before taken h last ran 
     inl (h.before, (header v ++ 10 ∷ []) ++ all.0, all.1, cut_found f (bytes ++ take n piece) v h all.0, all.2)
 
 -- no header line was found
-pub joins_none : (from to old : Option (List ℕ)) (bytes : List ℕ) (f : Front) (answer : Answer) → Consumes from to bytes → FindsNoTrace (streams from to old old) bytes answer → Joins (streams from to old old) answer
+pub joins_none : (from to old : Option (List ℕ)) (bytes : List ℕ) (f : Front) (answer : Answer) → Consumes from to bytes → FindsNoTrace (streams from to old old) bytes answer
+    → Joins (streams from to old old) answer
 joins_none from to old bytes f answer taken none = inr (bytes, taken, Keeps-refl old, none)
 
 -- what `find` found, by its answer

@@ -136,7 +136,8 @@ module _ (form : LineForm) where
         ∙ ap (λ l. form_lines form (bench p v) 1 l ++ closing (read_of trace).fault (bench p v) (read_of trace).edges) edges
         ∙ ap (λ l. form_lines form (bench p v) 1 es ++ l) (closing_is edges whole)
 
-    status_is : (w : Option Version) → w ≡ Some v → (read_of trace).edges ≡ es → status_with (0 + length es - length (kept (bench p v) es).history) ≡ status_with (refused_count p w (read_of trace).edges)
+    status_is : (w : Option Version) → w ≡ Some v → (read_of trace).edges ≡ es → status_with (0 + length es - length (kept (bench p v) es).history)
+        ≡ status_with (refused_count p w (read_of trace).edges)
     status_is w e edges =
         let accepted : length (kept (bench p v) es).history - 0 ≡ length (kept (bench p v) es).history = omega arith in
         let count : 0 + length es ≡ length es = omega arith in
@@ -150,7 +151,8 @@ module _ (form : LineForm) where
 
   -- by what the last read answered
   module _ (p : Plan) (v : Version) (trace : List ℕ) (s : Streams) (es : List Edge) (more : Result Bool Fault) (came : Came v trace s.from s.to es more) where
-    replays_end : (status : Status) → more ≡ Ok false → Wrote s (piece_text form (bench p v) 0 es more) → status ≡ status_with (0 + length es - length (kept (bench p v) es).history) → Replays form p [] trace s (Ok status)
+    replays_end : (status : Status) → more ≡ Ok false → Wrote s (piece_text form (bench p v) 0 es more) → status ≡ status_with (0 + length es - length (kept (bench p v) es).history)
+        → Replays form p [] trace s (Ok status)
     replays_end status is wrote ends =
         let end : Came v trace s.from s.to es (Ok false) = subst (Came v trace s.from s.to es) is came in (
           end.2,
@@ -168,8 +170,10 @@ module _ (form : LineForm) where
     replays_cut f is wrote = subst (λ (g : Fault). ReplayStops form p [] trace s g) (sym is) (cut_short p v trace s es (came_begins v trace s.from s.to es more came) more came wrote)
 
   -- What a piece leaves, or how far it came.
-  pub replay_takes : (p : Plan) (v : Version) (es : List Edge) (more : Result Bool Fault) (old new : Option (List ℕ)) (now : Replaying) (answer : Result (Option Status) Fault) → now.form ≡ form → TakesPiece form (bench p v) 0 es more old new now.bus now.judged answer
-      → Takes (λ fs x y (s : Replaying). (s.form ≡ form) × TakesPiece form (bench p v) 0 fs (Ok true) x y s.bus s.judged (Ok None)) (λ trace s a. Replays form p [] trace s (traced a)) v es more old new now answer
+  pub replay_takes : (p : Plan) (v : Version) (es : List Edge) (more : Result Bool Fault) (old new : Option (List ℕ)) (now : Replaying) (answer : Result (Option Status) Fault) → now.form ≡ form
+      → TakesPiece form (bench p v) 0 es more old new now.bus now.judged answer
+      → Takes (λ fs x y (s : Replaying). (s.form ≡ form) × TakesPiece form (bench p v) 0 fs (Ok true) x y s.bus s.judged (Ok None))
+      (λ trace s a. Replays form p [] trace s (traced a)) v es more old new now answer
   replay_takes p v es more old new now (Ok None) same h = (same, subst (λ (m : Result Bool Fault). TakesPiece form (bench p v) 0 es m old new now.bus now.judged (Ok None)) h.0 h)
   replay_takes p v es more old new now (Ok (Some status)) same h = λ trace from to came. replays_end p v trace (streams from to old new) es more came status h.0 h.1 h.2
   replay_takes p v es more old new now (Err f) same h = λ trace from to came. elim h [
@@ -177,7 +181,8 @@ module _ (form : LineForm) where
     | inr part ↦ replays_cut p v trace (streams from to old new) es more came f part.0 part.1
   ]
 
-  pub replay_goes_on : (b next : State) (judged now : ℕ) (es : List Edge) (more : Result Bool Fault) (old new : Option (List ℕ)) (answer : Result (Option Status) Fault) → TakesPiece form b judged es more old new next now answer → GoesOn more now (judged + length es) answer
+  pub replay_goes_on : (b next : State) (judged now : ℕ) (es : List Edge) (more : Result Bool Fault) (old new : Option (List ℕ)) (answer : Result (Option Status) Fault)
+      → TakesPiece form b judged es more old new next now answer → GoesOn more now (judged + length es) answer
   replay_goes_on b next judged now es more old new (Ok None) h = (h.0, h.3)
   replay_goes_on b next judged now es more old new (Ok (Some status)) h = tt
   replay_goes_on b next judged now es more old new (Err f) h = tt

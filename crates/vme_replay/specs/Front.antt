@@ -90,7 +90,8 @@ ReplaysBehind p version rest at to old new answer =
     (from : Option (List ℕ)) (before : List ℕ)
     → Consumes from at (before ++ (header_line version ++ rest))
     → (others : List ℕ) × IsInput from (before ++ (header_line version ++ others))
-    × Replays Short p before (header_line version ++ others) (streams from to old new) (traced answer)
+    × Replays Short p before (header_line version ++ others) (streams from to old new)
+    (traced answer)
 
 -- What stands after the text of a scenario was replayed: its header line, what was read after it,
 -- and the rest.
@@ -104,4 +105,5 @@ JoinsBehind f version rest at to old new answer =
     → Consumes from at (before ++ (header_line version ++ rest))
     → (others : List ℕ) × IsInput from (before ++ (header_line version ++ others))
     × LentAsking before (WroteNothing (streams from to old new))
-    (λ p r. Replays Short p before (header_line version ++ others) (streams from to old new) r) answer
+    (λ p r. Replays Short p before (header_line version ++ others)
+    (streams from to old new) r) answer

@@ -46,7 +46,8 @@ before_both a b c f g = by_place (cases_lt f.place g.place)
 pub farther_both : (known : Known) (a b c : Places) → IsFarther known a b → IsFarther known b c → IsFarther known a c
 farther_both known a b c f g = record { reached = f.reached; more = by_count f.more g.more }
   where
-    by_count : (count_ones b.bits < count_ones a.bits) ⊎ ((count_ones b.bits ≡ count_ones a.bits) × IsBefore a b) → (count_ones c.bits < count_ones b.bits) ⊎ ((count_ones c.bits ≡ count_ones b.bits) × IsBefore b c) → (count_ones c.bits < count_ones a.bits) ⊎ ((count_ones c.bits ≡ count_ones a.bits) × IsBefore a c)
+    by_count : (count_ones b.bits < count_ones a.bits) ⊎ ((count_ones b.bits ≡ count_ones a.bits) × IsBefore a b) → (count_ones c.bits < count_ones b.bits)
+        ⊎ ((count_ones c.bits ≡ count_ones b.bits) × IsBefore b c) → (count_ones c.bits < count_ones a.bits) ⊎ ((count_ones c.bits ≡ count_ones a.bits) × IsBefore a c)
     by_count (inl l) (inl m) = inl (omega (arith, l, m))
     by_count (inl l) (inr e) = let k = e.0 in inl (omega (arith, l, k))
     by_count (inr e) (inl m) = let k = e.0 in inl (omega (arith, k, m))

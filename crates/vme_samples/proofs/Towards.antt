@@ -50,7 +50,8 @@ none_done : (goal set : Places) → IsDone goal 0 set → ⊥
 none_done goal set done = let l = done.near in let m = done.above in omega (arith, l, m)
 
 -- before the first set
-pub none_yet : (p : Plan) (probed : Probed) (sample : List SeenChange) (known : Known) (goal : Places) (reaching : Reaching) (by : ℕ → Drivers) → ((i : ℕ) → i < length sample → by i ≡ nobody) → MakersDone p probed sample known goal reaching 0 by
+pub none_yet : (p : Plan) (probed : Probed) (sample : List SeenChange) (known : Known) (goal : Places) (reaching : Reaching) (by : ℕ → Drivers) → ((i : ℕ) → i < length sample → by i ≡ nobody)
+    → MakersDone p probed sample known goal reaching 0 by
 none_yet p probed sample known goal reaching by none = record {
   at_goal = λ l. absurd (omega (arith, l));
   reaches = λ set done at. absurd (none_done goal set done);
@@ -62,7 +63,8 @@ none_yet p probed sample known goal reaching by none = record {
 }
 
 -- behind all of them
-pub all_done : (p : Plan) (probed : Probed) (sample : List SeenChange) (known : Known) (goal : Places) (reaching : Reaching) (back : ℕ) (by : ℕ → Drivers) → back ≡ goal.bits + 1 → MakersDone p probed sample known goal reaching back by → AreMakers p probed sample known goal by
+pub all_done : (p : Plan) (probed : Probed) (sample : List SeenChange) (known : Known) (goal : Places) (reaching : Reaching) (back : ℕ) (by : ℕ → Drivers) → back ≡ goal.bits + 1
+    → MakersDone p probed sample known goal reaching back by → AreMakers p probed sample known goal by
 all_done p probed sample known goal reaching back by ended m = record {
   reaching = reaching;
   at_goal = m.at_goal (omega (arith, ended));
@@ -80,7 +82,8 @@ split : (x a b : Bool) → x ≡ (a || b) → x ≡ true → (a ≡ true) ⊎ (b
 split x true b e is = inl refl
 split x false b e is = inr (sym e ∙ is)
 
-pub none_noted : (p : Plan) (probed : Probed) (sample : List SeenChange) (known : Known) (goal : Places) (reaching : Reaching) (set : Places) (m : Makers) (some : Bool) → some ≡ false → AreNoted p probed sample known goal reaching set 0 m m some
+pub none_noted : (p : Plan) (probed : Probed) (sample : List SeenChange) (known : Known) (goal : Places) (reaching : Reaching) (set : Places) (m : Makers) (some : Bool) → some ≡ false
+    → AreNoted p probed sample known goal reaching set 0 m m some
 none_noted p probed sample known goal reaching set m some none = record {
   each = λ i l. absurd (omega (arith, l));
   others = λ i l. refl;
@@ -91,7 +94,8 @@ is_some : (a : Bool) → not a ≡ true → a ≡ false
 is_some true e = cc
 is_some false e = refl
 
-pub one_noted : (p : Plan) (probed : Probed) (sample : List SeenChange) (known : Known) (goal : Places) (reaching : Reaching) (set : Places) (n : ℕ) (d : Drivers) (first old new : Makers) (before some : Bool)
+pub one_noted : (p : Plan) (probed : Probed) (sample : List SeenChange) (known : Known) (goal : Places) (reaching : Reaching) (set : Places) (n : ℕ) (d : Drivers) (first old new : Makers)
+    (before some : Bool)
     → MakeNext p probed sample known goal reaching set n d → UnitesDrivers (by_at old n) d (by_at new n) → ((i : ℕ) → i ≢ n → by_at new i ≡ by_at old i) → some ≡ (before || not (is_nobody d))
     → AreNoted p probed sample known goal reaching set n first old before → AreNoted p probed sample known goal reaching set (n + 1) first new some
 one_noted p probed sample known goal reaching set n d first old new before some next unites others so noted = record {
@@ -145,7 +149,8 @@ one_more goal back put set near place done = by_order (cases_lt put.bits set.bit
 above_put : (goal : Places) (back : ℕ) (put set : Places) → back ≤ goal.bits → put.bits ≡ goal.bits - back → IsDone goal back set → put.bits < set.bits
 above_put goal back put set near place done = let m = done.above in omega (arith, m, near, place)
 
-next_kept : (p : Plan) (probed : Probed) (sample : List SeenChange) (known : Known) (goal put set : Places) (back i : ℕ) (is : Bool) (old new : Reaching) (d : Drivers) → IsPut goal back put is old new → put.bits ≤ set.bits → MakeNext p probed sample known goal old set i d → MakeNext p probed sample known goal new set i d
+next_kept : (p : Plan) (probed : Probed) (sample : List SeenChange) (known : Known) (goal put set : Places) (back i : ℕ) (is : Bool) (old new : Reaching) (d : Drivers) → IsPut goal back put is old new
+    → put.bits ≤ set.bits → MakeNext p probed sample known goal old set i d → MakeNext p probed sample known goal new set i d
 next_kept p probed sample known goal put set back i is old new d puts le m =
     let grown : 0 < 2 ^ i = pow_pos i in
     let e : is_reaching new goal (with set i) ≡ is_reaching old goal (with set i) =
@@ -156,7 +161,8 @@ next_kept p probed sample known goal put set back i is old new d puts le m =
       lost = λ r. m.lost (sym e ∙ r);
     }
 
-all_kept : (p : Plan) (probed : Probed) (sample : List SeenChange) (known : Known) (goal put set : Places) (back i : ℕ) (is : Bool) (old new : Reaching) (d e : Drivers) → IsPut goal back put is old new → put.bits < set.bits → AreAmong d e → HasAll p probed sample known goal old set i d → HasAll p probed sample known goal new set i e
+all_kept : (p : Plan) (probed : Probed) (sample : List SeenChange) (known : Known) (goal put set : Places) (back i : ℕ) (is : Bool) (old new : Reaching) (d e : Drivers)
+    → IsPut goal back put is old new → put.bits < set.bits → AreAmong d e → HasAll p probed sample known goal old set i d → HasAll p probed sample known goal new set i e
 all_kept p probed sample known goal put set back i is old new d e puts l among h = record {
   drivers = h.drivers;
   next = next_kept p probed sample known goal put set back i is old new h.drivers puts (omega (arith, l)) h.next;
@@ -179,18 +185,22 @@ among_new a b c u = record {
   boards = λ s x. u.boards s ∙ or_true (has a.boards s) (has b.boards s) x;
 }
 
-some_kept : (p : Plan) (probed : Probed) (sample : List SeenChange) (known : Known) (goal put set : Places) (back : ℕ) (is : Bool) (old new : Reaching) → IsPut goal back put is old new → put.bits ≤ set.bits
+some_kept : (p : Plan) (probed : Probed) (sample : List SeenChange) (known : Known) (goal put set : Places) (back : ℕ) (is : Bool) (old new : Reaching) → IsPut goal back put is old new
+    → put.bits ≤ set.bits
     → ((i : ℕ) × (i < length sample) × (d : Drivers) × SomeMake p probed sample known goal old set i d)
     → ReachesOn p probed sample known goal new set
 some_kept p probed sample known goal put set back is old new puts le x =
     inr (x.0, x.1, x.2, record { next = next_kept p probed sample known goal put set back x.0 is old new x.2 puts le x.3.next; some = x.3.some })
 
-reach_kept : (p : Plan) (probed : Probed) (sample : List SeenChange) (known : Known) (goal put set : Places) (back : ℕ) (is : Bool) (old new : Reaching) → IsPut goal back put is old new → put.bits ≤ set.bits → ReachesOn p probed sample known goal old set → ReachesOn p probed sample known goal new set
+reach_kept : (p : Plan) (probed : Probed) (sample : List SeenChange) (known : Known) (goal put set : Places) (back : ℕ) (is : Bool) (old new : Reaching) → IsPut goal back put is old new
+    → put.bits ≤ set.bits → ReachesOn p probed sample known goal old set → ReachesOn p probed sample known goal new set
 reach_kept p probed sample known goal put set back is old new puts le (inl e) = inl e
 reach_kept p probed sample known goal put set back is old new puts le (inr x) = some_kept p probed sample known goal put set back is old new puts le x
 
 -- one change of the sample
-makers_step : (p : Plan) (probed : Probed) (sample : List SeenChange) (known : Known) (goal put : Places) (back i : ℕ) (some is : Bool) (old new : Reaching) (d e : Drivers) → IsPut goal back put is old new → (some ≡ true → is ≡ true) → Notes p probed sample known goal old put i d e some → MakersOfDone p probed sample known goal old back i d → MakersOfDone p probed sample known goal new (back + 1) i e
+makers_step : (p : Plan) (probed : Probed) (sample : List SeenChange) (known : Known) (goal put : Places) (back i : ℕ) (some is : Bool) (old new : Reaching) (d e : Drivers)
+    → IsPut goal back put is old new → (some ≡ true → is ≡ true) → Notes p probed sample known goal old put i d e some → MakersOfDone p probed sample known goal old back i d
+    → MakersOfDone p probed sample known goal new (back + 1) i e
 makers_step p probed sample known goal put back i some is old new d e puts some_is notes m = record {
   controller = λ c. of_controller (split e.controller d.controller notes.drivers.controller notes.unites.controller c);
   boards = λ s c. of_board s (split (has e.boards s) (has d.boards s) (has notes.drivers.boards s) (notes.unites.boards s) c);
@@ -207,7 +217,14 @@ makers_step p probed sample known goal put back i some is old new d e puts some_
     kept x =
         let l = above_put goal back put x.set puts.back_near puts.place x.done in
         let m = x.done.above in
-        record { set = x.set; done = record { near = x.done.near; above = omega (arith, m) }; drivers = x.drivers; next = next_kept p probed sample known goal put x.set back i is old new x.drivers puts (omega (arith, l)) x.next }
+        record {
+          set = x.set;
+          done =
+              record { near = x.done.near; above = omega (arith, m) };
+          drivers = x.drivers;
+          next = next_kept p probed sample known goal put x.set back i is old new x.drivers puts
+              (omega (arith, l)) x.next;
+        }
 
     of_controller : (d.controller ≡ true) ⊎ (notes.drivers.controller ≡ true) → (x : DoneSource p probed sample known goal new (back + 1) i) × (x.drivers.controller ≡ true)
     of_controller (inl c) = let x = m.controller c in (kept x.0, x.1)
@@ -227,13 +244,16 @@ makers_step p probed sample known goal put back i some is old new d e puts some_
 
     of_set : (set : Places) → (set ≡ put) ⊎ IsDone goal back set → HasAll p probed sample known goal new set i e
     of_set set (inl q) = subst (λ x. HasAll p probed sample known goal new x i e) (sym q) all_here
-    of_set set (inr done) = all_kept p probed sample known goal put set back i is old new d e puts (above_put goal back put set puts.back_near puts.place done) (among_old d notes.drivers e notes.unites) (m.all set done)
+    of_set set (inr done) = all_kept p probed sample known goal put set back i is old new d e puts (above_put goal back put set puts.back_near puts.place done)
+        (among_old d notes.drivers e notes.unites) (m.all set done)
 
 is_at_goal : (back : ℕ) → (back == 0) ≡ true → back ≡ 0
 is_at_goal back e = same_number back 0 e
 
 -- all of them
-pub set_done : (p : Plan) (probed : Probed) (sample : List SeenChange) (known : Known) (goal put : Places) (back : ℕ) (some is : Bool) (old new : Reaching) (m m' : Makers) → IsPut goal back put is old new → is ≡ (some || (back == 0)) → AreNoted p probed sample known goal old put (length sample) m m' some → MakersDone p probed sample known goal old back (by_at m) → MakersDone p probed sample known goal new (back + 1) (by_at m')
+pub set_done : (p : Plan) (probed : Probed) (sample : List SeenChange) (known : Known) (goal put : Places) (back : ℕ) (some is : Bool) (old new : Reaching) (m m' : Makers)
+    → IsPut goal back put is old new → is ≡ (some || (back == 0)) → AreNoted p probed sample known goal old put (length sample) m m' some → MakersDone p probed sample known goal old back (by_at m)
+    → MakersDone p probed sample known goal new (back + 1) (by_at m')
 set_done p probed sample known goal put back some is old new m m' puts is_so noted done = record {
   at_goal = λ l. of_goal (cases_lt 0 back);
   reaches = λ set d at. of_set set (one_more goal back put set puts.back_near puts.place d) at;

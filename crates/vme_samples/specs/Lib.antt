@@ -5,6 +5,8 @@
 pub mod Ways
 -- believe: which change of a sample may come next, and which changes belong to it
 pub mod Samples
+-- believe: what an order of a sample is
+pub mod Orders
 -- words: sets of places of a sample
 pub mod Places
 -- words: how those are gathered who may have made each change

@@ -20,14 +20,18 @@ pub record UnitesDrivers (a b new : Drivers) : Type 0 where
   pub boards : UnitesSlots a.boards b.boards new.boards
 
 -- they were taken in for a change next behind a set; and whether there is somebody
-pub record Notes (p : Plan) (probed : Probed) (sample : List SeenChange) (known : Known) (goal : Places) (reaching : Reaching) (set : Places) (i : ℕ) (old new : Drivers) (some : Bool) : Type 0 where
+pub record Notes (p : Plan) (probed : Probed) (sample : List SeenChange) (known : Known)
+    (goal : Places) (reaching : Reaching) (set : Places) (i : ℕ) (old new : Drivers)
+    (some : Bool) : Type 0 where
   pub drivers : Drivers
   pub next : MakeNext p probed sample known goal reaching set i drivers
   pub unites : UnitesDrivers old drivers new
   pub is_some : is_nobody drivers ≡ false → some ≡ true
 
 -- so for each of the first n changes
-pub record AreNoted (p : Plan) (probed : Probed) (sample : List SeenChange) (known : Known) (goal : Places) (reaching : Reaching) (set : Places) (n : ℕ) (old new : Makers) (some : Bool) : Type 0 where
+pub record AreNoted (p : Plan) (probed : Probed) (sample : List SeenChange) (known : Known)
+    (goal : Places) (reaching : Reaching) (set : Places) (n : ℕ) (old new : Makers)
+    (some : Bool) : Type 0 where
   pub each : (i : ℕ) → i < n
       → Notes p probed sample known goal reaching set i (by_at old i) (by_at new i) some
   pub others : (i : ℕ) → n ≤ i → by_at new i ≡ by_at old i

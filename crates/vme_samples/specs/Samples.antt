@@ -34,7 +34,7 @@ comes_next sample set i =
 abbrev pub last_of : List SeenChange → Option SeenChange
 last_of sample = slice_get sample (length sample - 1)
 
--- A change at this moment belongs to the sample: there is none in it, or it is at most so much later
--- than the last one.
+-- A change at this moment belongs to the sample: there is none in it, or it is at most so much
+-- later than the last one.
 abbrev pub joins : ℕ → List SeenChange → ℕ → Bool
 joins skew sample m = option_map_or (λ s. nat_le (m - s.moment) skew) (last_of sample) true

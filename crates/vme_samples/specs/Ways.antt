@@ -28,7 +28,8 @@ abbrev pub hidden_behind : Known → Places → Option Standings
 hidden_behind known set = slice_index_or known set.bits None
 
 -- somebody may make the change, and that is known behind it
-pub record Makes (p : Plan) (probed : Probed) (hidden : Standings) (c : Change) (new : Standings) : Type 0 where
+pub record Makes (p : Plan) (probed : Probed) (hidden : Standings) (c : Change)
+    (new : Standings) : Type 0 where
   pub drivers : Drivers
   pub are : AreDrivers p probed hidden c drivers
   pub some : is_nobody drivers ≡ false
@@ -51,7 +52,8 @@ abbrev pub may_be_last : List SeenChange → Places → ℕ → Bool
 may_be_last sample set i = has_place set i && comes_next sample (without set i) i
 
 -- what is known behind the set if it is
-pub record LedTo (p : Plan) (probed : Probed) (sample : List SeenChange) (known : Known) (set : Places) (i : ℕ) (new : Option Standings) : Type 0 where
+pub record LedTo (p : Plan) (probed : Probed) (sample : List SeenChange) (known : Known)
+    (set : Places) (i : ℕ) (new : Option Standings) : Type 0 where
   pub able : may_be_last sample set i ≡ true
       → Steps p probed (hidden_behind known (without set i)) (slice_get sample i) new
   pub unable : may_be_last sample set i ≡ false → new ≡ None
@@ -73,16 +75,19 @@ Gathered p probed sample known set (suc n) new =
 -- with the edges that no probe sees
 abbrev pub Hides : Plan → Probed → Option Standings → Option Standings → Type 0
 Hides p probed None new = new ≡ None
-Hides p probed (Some st) new = (hidden : Standings) × HasMoved p probed st hidden × (new ≡ Some hidden)
+Hides p probed (Some st) new = (hidden : Standings) × HasMoved p probed st hidden
+    × (new ≡ Some hidden)
 
 -- what is known behind a set that is not empty
-pub record IsKnownBehind (p : Plan) (probed : Probed) (sample : List SeenChange) (known : Known) (set : Places) : Type 0 where
+pub record IsKnownBehind (p : Plan) (probed : Probed) (sample : List SeenChange) (known : Known)
+    (set : Places) : Type 0 where
   pub at : Option Standings
   pub gathered : Gathered p probed sample known set (length sample) at
   pub hides : Hides p probed at (hidden_behind known set)
 
 -- what is known behind each set of the changes of a sample, given what is known before it
-pub record AreWays (p : Plan) (probed : Probed) (start : Standings) (sample : List SeenChange) (known : Known) : Type 0 where
+pub record AreWays (p : Plan) (probed : Probed) (start : Standings) (sample : List SeenChange)
+    (known : Known) : Type 0 where
   pub begins : Hides p probed (Some start) (hidden_behind known (record { bits = 0 }))
   pub others : (set : Places) → 0 < set.bits → set.bits < 2 ^ length sample
       → IsKnownBehind p probed sample known set
@@ -100,8 +105,8 @@ pub record IsFarther (known : Known) (set other : Places) : Type 0 where
   pub more : (count_ones other.bits < count_ones set.bits)
       ⊎ ((count_ones other.bits ≡ count_ones set.bits) × IsBefore set other)
 
--- of the sets of so many places behind which something is known the one with the most places, and of
--- these the first
+-- of the sets of so many places behind which something is known the one with the most places, and
+-- of these the first
 pub record IsFurthest (known : Known) (count : ℕ) (set : Places) : Type 0 where
   pub near : set.bits < 2 ^ count
   pub reached : 0 < set.bits → IsReached known set
@@ -128,15 +133,18 @@ abbrev pub AreOf : Plan → Probed → Option Standings → Option SeenChange �
 AreOf p probed (Some hidden) (Some s) d = AreDrivers p probed hidden s.change d
 AreOf p probed _ _ d = d ≡ nobody
 
--- those who may make the change at the place next behind the set, if all of the goal is reached then
-pub record MakeNext (p : Plan) (probed : Probed) (sample : List SeenChange) (known : Known) (goal : Places) (reaching : Reaching) (set : Places) (i : ℕ) (d : Drivers) : Type 0 where
+-- those who may make the change at the place next behind the set, if all of the goal is reached
+-- then
+pub record MakeNext (p : Plan) (probed : Probed) (sample : List SeenChange) (known : Known)
+    (goal : Places) (reaching : Reaching) (set : Places) (i : ℕ) (d : Drivers) : Type 0 where
   pub able : comes_next sample set i ≡ true → is_reaching reaching goal (with set i) ≡ true
       → AreOf p probed (hidden_behind known set) (slice_get sample i) d
   pub late : comes_next sample set i ≡ false → d ≡ nobody
   pub lost : is_reaching reaching goal (with set i) ≡ false → d ≡ nobody
 
 -- they may make it, and there is somebody
-pub record SomeMake (p : Plan) (probed : Probed) (sample : List SeenChange) (known : Known) (goal : Places) (reaching : Reaching) (set : Places) (i : ℕ) (d : Drivers) : Type 0 where
+pub record SomeMake (p : Plan) (probed : Probed) (sample : List SeenChange) (known : Known)
+    (goal : Places) (reaching : Reaching) (set : Places) (i : ℕ) (d : Drivers) : Type 0 where
   pub next : MakeNext p probed sample known goal reaching set i d
   pub some : is_nobody d ≡ false
 
@@ -147,21 +155,24 @@ pub record AreAmong (some all : Drivers) : Type 0 where
 
 -- Of each set: those who may make the change at the place next behind it are among all of them, and
 -- if there is somebody, all of the goal is reached from it.
-pub record HasAll (p : Plan) (probed : Probed) (sample : List SeenChange) (known : Known) (goal : Places) (reaching : Reaching) (set : Places) (i : ℕ) (all : Drivers) : Type 0 where
+pub record HasAll (p : Plan) (probed : Probed) (sample : List SeenChange) (known : Known)
+    (goal : Places) (reaching : Reaching) (set : Places) (i : ℕ) (all : Drivers) : Type 0 where
   pub drivers : Drivers
   pub next : MakeNext p probed sample known goal reaching set i drivers
   pub among : AreAmong drivers all
   pub reaches : is_nobody drivers ≡ false → reaching_at reaching set ≡ true
 
 -- some of those who may make the change at the place next behind a set
-pub record Source (p : Plan) (probed : Probed) (sample : List SeenChange) (known : Known) (goal : Places) (reaching : Reaching) (i : ℕ) : Type 0 where
+pub record Source (p : Plan) (probed : Probed) (sample : List SeenChange) (known : Known)
+    (goal : Places) (reaching : Reaching) (i : ℕ) : Type 0 where
   pub set : Places
   pub near : set.bits ≤ goal.bits
   pub drivers : Drivers
   pub next : MakeNext p probed sample known goal reaching set i drivers
 
 -- exactly those who may make the change at the place on some way to all of the goal
-pub record AreMakersOf (p : Plan) (probed : Probed) (sample : List SeenChange) (known : Known) (goal : Places) (reaching : Reaching) (i : ℕ) (d : Drivers) : Type 0 where
+pub record AreMakersOf (p : Plan) (probed : Probed) (sample : List SeenChange) (known : Known)
+    (goal : Places) (reaching : Reaching) (i : ℕ) (d : Drivers) : Type 0 where
   pub controller : d.controller ≡ true
       → (x : Source p probed sample known goal reaching i) × (x.drivers.controller ≡ true)
   pub boards : (s : ℕ) → has d.boards s ≡ true
@@ -178,7 +189,8 @@ ReachesOn p probed sample known goal reaching set =
     × SomeMake p probed sample known goal reaching set i d)
 
 -- who may have made each change of the sample on the ways to all of the goal
-pub record AreMakers (p : Plan) (probed : Probed) (sample : List SeenChange) (known : Known) (goal : Places) (by : ℕ → Drivers) : Type 0 where
+pub record AreMakers (p : Plan) (probed : Probed) (sample : List SeenChange) (known : Known)
+    (goal : Places) (by : ℕ → Drivers) : Type 0 where
   pub reaching : Reaching
   pub at_goal : reaching_at reaching goal ≡ true
   pub reaches : (set : Places) → set.bits ≤ goal.bits → reaching_at reaching set ≡ true
@@ -189,7 +201,8 @@ pub record AreMakers (p : Plan) (probed : Probed) (sample : List SeenChange) (kn
 -- ---- words
 
 -- that is known behind the set, and of the others what was known
-pub record Keeps (p : Plan) (probed : Probed) (set : Places) (at : Option Standings) (old new : Known) : Type 0 where
+pub record Keeps (p : Plan) (probed : Probed) (set : Places) (at : Option Standings)
+    (old new : Known) : Type 0 where
   pub here : Hides p probed at (hidden_behind new set)
   pub others : (other : Places) → other.bits ≢ set.bits
       → hidden_behind new other ≡ hidden_behind old other

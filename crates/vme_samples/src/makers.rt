@@ -135,7 +135,8 @@ impl Ways {
         ensures known { self.new.known ≡ self.old.known }
         ensures here { reaching_at self.new.reaching.items places ≡ is_reaching }
         ensures others { (other : Set) → other.bits ≢ places.bits
-            → reaching_at self.new.reaching.items other ≡ reaching_at self.old.reaching.items other }
+            → reaching_at self.new.reaching.items other
+            ≡ reaching_at self.old.reaching.items other }
     {
         self.reaching[places.number()] = is_reaching;
     }

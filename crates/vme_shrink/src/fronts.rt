@@ -10,8 +10,8 @@ use std::alloc::Global;
 use std::io::Write;
 use vme_model::Edge;
 use vme_reading::{Status, write_trace};
-use vme_store::Code;
 use vme_shrink_search::{Front, StoryProgress, story};
+use vme_store::Code;
 use vme_trace::Fault;
 
 /// The status if the edge that is asked for is accepted, and if it is not.

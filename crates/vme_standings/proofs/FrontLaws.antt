@@ -290,7 +290,8 @@ module _ (version : Version) (p : Plan) (ok : IsAccepted p) where
       (covers low)
 
   -- a board answers an acknowledge
-  module _ (h : List Edge) (s : ℕ) (v : Option Cycle) (legal : IsLegal version p (at s Dtack true v ∷ h)) (n : ℕ) (shows : shown p h ≡ Some (Acknowledge n)) (old : Fronts) (covers : CoversFronts p h old) where
+  module _ (h : List Edge) (s : ℕ) (v : Option Cycle) (legal : IsLegal version p (at s Dtack true v ∷ h)) (n : ℕ) (shows : shown p h ≡ Some (Acknowledge n)) (old : Fronts)
+      (covers : CoversFronts p h old) where
     abbrev answer_passed : Passed version p h (Slot s) Dtack true v
     answer_passed = all_passed version p h (Slot s) Dtack true v legal.0
 
@@ -306,7 +307,8 @@ module _ (version : Version) (p : Plan) (ok : IsAccepted p) where
     answer_reads = and_left (iack_in p h (Slot s)) (not (drive h (Slot s) IackOut)) chain_tests
 
     abbrev answer_low : line p h AddressStrobe ≡ true
-    answer_low = and_right (line p h DataStrobe) (line p h AddressStrobe) (and_left (line p h DataStrobe && line p h AddressStrobe) (holds (answer_guard (readings p h (Slot s)) (shown p h))) answer_passed.rule)
+    answer_low = and_right (line p h DataStrobe) (line p h AddressStrobe) (and_left (line p h DataStrobe && line p h AddressStrobe)
+        (holds (answer_guard (readings p h (Slot s)) (shown p h))) answer_passed.rule)
 
     answer_on : is_interrupter p s ≡ true
     answer_on = chain_member p (in_range p ok) h s answer_reads
@@ -325,7 +327,8 @@ module _ (version : Version) (p : Plan) (ok : IsAccepted p) where
         inr (r.place, record { exists = r.come.exists; begun = r.come.begun; passed = r.come.passed }, subst (λ x. has new.ends x ≡ true) r.behind.input ends)
 
   -- nobody answers one
-  module _ (h : List Edge) (v : Option Cycle) (legal : IsLegal version p (at_head Berr true v ∷ h)) (n : ℕ) (shows : shown p h ≡ Some (Acknowledge n)) (old : Fronts) (covers : CoversFronts p h old) where
+  module _ (h : List Edge) (v : Option Cycle) (legal : IsLegal version p (at_head Berr true v ∷ h)) (n : ℕ) (shows : shown p h ≡ Some (Acknowledge n)) (old : Fronts)
+      (covers : CoversFronts p h old) where
     abbrev error_passed : Passed version p h Controller Berr true v
     error_passed = all_passed version p h Controller Berr true v legal.0
 
@@ -372,7 +375,8 @@ module _ (version : Version) (p : Plan) (ok : IsAccepted p) where
         same_slot : (t : ℕ) → (t == t) ≡ true
         same_slot t = grind (arith, nat_tests)
 
-        output_of : (t : ℕ) → is_interrupter p t ≡ true → option_map {U = Segment} (λ (b : Row). record { chain = chain.Iack; place = Some b.slot }) (board p t) ≡ Some (record { chain = chain.Iack; place = Some t })
+        output_of : (t : ℕ) → is_interrupter p t ≡ true → option_map {U = Segment} (λ (b : Row). record { chain = chain.Iack; place = Some b.slot }) (board p t)
+            ≡ Some (record { chain = chain.Iack; place = Some t })
         output_of t on =
             let i = interrupts_of p t on in
             ap (λ (o : Option Row). option_map {U = Segment} (λ (b : Row). record { chain = chain.Iack; place = Some b.slot }) o) i.found

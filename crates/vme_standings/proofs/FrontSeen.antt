@@ -145,7 +145,8 @@ module _ (version : Version) (p : Plan) (ok : IsAccepted p) (pins : List Pin) (h
         record {
           shows = shows;
           strobed = (fall_by version p ok h e legal Dtack (λ t. line p h DataStrobe ≡ true) l.0 l.1 (λ t driver wire w.
-              and_left (line p h DataStrobe) (line p h AddressStrobe) (and_left (line p h DataStrobe && line p h AddressStrobe) _ (passed_as version p h e t Dtack true legal driver wire w).rule))).fact;
+              and_left (line p h DataStrobe) (line p h AddressStrobe) (and_left (line p h DataStrobe && line p h AddressStrobe) _
+              (passed_as version p h e t Dtack true legal driver wire w).rule))).fact;
           unanswered = l.0;
         }
 
@@ -178,7 +179,8 @@ module _ (version : Version) (p : Plan) (ok : IsAccepted p) (pins : List Pin) (h
 
     pub error_asked : v.fall ≡ true → (n : ℕ) → shown p h ≡ Some (Acknowledge n) → IsUnderWay p h n
     error_asked fall n shows =
-        let passed = all_passed version p h Controller Berr true e.value (legal_as version p ok h e legal (at_head Berr true e.value) (as_edge e Controller Berr true error_is.0 error_is.1 (falls fall))).0 in
+        let passed = all_passed version p h Controller Berr true e.value (legal_as version p ok h e legal (at_head Berr true e.value)
+        (as_edge e Controller Berr true error_is.0 error_is.1 (falls fall))).0 in
         record {
           shows = shows;
           strobed = and_left (line p h DataStrobe) (not (line p h Dtack)) passed.rule;

@@ -83,7 +83,8 @@ module _ (version : Version) (p : Plan) (ok : IsAccepted p) where
     possible (Idle c) i = refl
     possible (Granting c last) i =
         both (is_segment p c last && not (end_place p c == 0)) _
-        (both (is_segment p c last) (not (end_place p c == 0)) i.named (above_zero board.0 (end_place p c) (end_last p ok c few board.0 (board_segment p c board.0 board.1)) (from_one p ok c board.0 board.1)))
+        (both (is_segment p c last) (not (end_place p c == 0)) i.named (above_zero board.0 (end_place p c) (end_last p ok c few board.0 (board_segment p c board.0 board.1))
+        (from_one p ok c board.0 board.1)))
         (⊎_elim (λ (a : IsAwaited p h c). or_right (is_two version) _ (both (has_bus_level requests c) (not (last == end_place p c)) (requested a) (before_end a)))
         (λ (w : (is_two version ≡ true) × (was_withdrawn p h c ≡ true)). or_left (is_two version) _ w.0)
         (wanted version p ok h legal c last few i))

@@ -106,7 +106,8 @@ module _ (version : Version) (p : Plan) (ok : IsAccepted p) (h : List Edge) (s :
 
     module _ (requests : BusLevels) (asked : AreAsked p h requests) (old : GrantPhases) (covers : CoversGrants p h old) where
       take_asked : has_bus_level requests take_level.level ≡ true
-      take_asked = asked take_level.level take_level.in_range ∙ asks_on p ok h take_level.level s take_level.member (and_right (grant_in p h (Slot s) && not (drive h (Slot s) BgOut)) (drive h (Slot s) Br) take_passed.rule)
+      take_asked = asked take_level.level take_level.in_range ∙ asks_on p ok h take_level.level s take_level.member
+          (and_right (grant_in p h (Slot s) && not (drive h (Slot s) BgOut)) (drive h (Slot s) Br) take_passed.rule)
 
       take_phase : has_phase old (Granting take_level.level (place_before p take_level.level s)) ≡ true
       take_phase = subst (λ q. has_phase old q ≡ true) (take_from covers.phase covers.is_in) covers.member

@@ -115,7 +115,8 @@ module _ (version : Version) (p : Plan) (ok : IsAccepted p) (pins : List Pin) (h
     is_in = i;
     member =
         leads_on (Expired m x) (Expired m f) (is_few m few)
-        (both (m == m && is_follower p m x f) (is_two version && is_unseen probed m x) (both (m == m) (is_follower p m x f) (equal m m refl) follows) (both (is_two version) (is_unseen probed m x) two free)) same;
+        (both (m == m && is_follower p m x f) (is_two version && is_unseen probed m x) (both (m == m) (is_follower p m x f) (equal m m refl) follows)
+        (both (is_two version) (is_unseen probed m x) two free)) same;
   }
   turn_covers e m x few free (AllRun two from end same i) = record {
     phase = Idle m;
@@ -130,7 +131,8 @@ module _ (version : Version) (p : Plan) (ok : IsAccepted p) (pins : List Pin) (h
     member =
         leads_on (Granting m (end_place p m)) (Expired m f) (is_few m few)
         (both (m == m && is_follower p m 0 f) _ (both (m == m) (is_follower p m 0 f) (equal m m refl) follows)
-        (both (is_two version) _ two (both (is_unseen probed m 0) (end_place p m == end_place p m) (subst (λ y. is_unseen probed m y ≡ true) first free) (equal (end_place p m) (end_place p m) refl)))) same;
+        (both (is_two version) _ two (both (is_unseen probed m 0) (end_place p m == end_place p m) (subst (λ y. is_unseen probed m y ≡ true) first free)
+        (equal (end_place p m) (end_place p m) refl)))) same;
   }
 
   abbrev Unseen : Edge → Type 0
@@ -169,7 +171,8 @@ module _ (version : Version) (p : Plan) (ok : IsAccepted p) (pins : List Pin) (h
       let passed = all_passed version p h (Slot s) BgOut true v legal.0 in
       let from = from_one p ok l.level s l.member in
       let own = board_segment p l.level s l.member in
-      let free = is_free (at s BgOut true v) l.level s l.in_range own true (board_moves p ok h l.level s true v l.member) (own_low s from l.level ∙ passed.before) refl (output_is p ok l.level s l.member) none in
+      let free = is_free (at s BgOut true v) l.level s l.in_range own true (board_moves p ok h l.level s true v l.member) (own_low s from l.level ∙ passed.before) refl
+      (output_is p ok l.level s l.member) none in
       record {
         phase = Granting l.level s;
         is_in = pass_to version p ok h s v legal covers.phase covers.is_in;
@@ -188,7 +191,8 @@ module _ (version : Version) (p : Plan) (ok : IsAccepted p) (pins : List Pin) (h
       let passed = all_passed version p h (Slot s) BgOut false v legal.0 in
       let from = from_one p ok l.level s l.member in
       turn_covers (at s BgOut false v) l.level s l.in_range
-      (is_free (at s BgOut false v) l.level s l.in_range (board_segment p l.level s l.member) false (board_moves p ok h l.level s false v l.member) (own_low s from l.level ∙ passed.before) refl (output_is p ok l.level s l.member) none)
+      (is_free (at s BgOut false v) l.level s l.in_range (board_segment p l.level s l.member) false (board_moves p ok h l.level s false v l.member) (own_low s from l.level ∙ passed.before) refl
+      (output_is p ok l.level s l.member) none)
       (rise_turns version p ok h s v legal covers.phase covers.is_in)
 
   -- BBSY* is never moved unseen

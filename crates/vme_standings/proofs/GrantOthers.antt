@@ -89,7 +89,8 @@ held_from p h t holds (Held k first) i = (first, ap (λ x. Held x first) (same_n
 held_from p h t holds (Expired c first) i = absurd (never (drive h (Slot t) wire.Bbsy) holds (i.held t))
 
 -- an edge of none of the wires of the phases
-pub keeps : (p : Plan) (h : List Edge) (e : Edge) (set : GrantPhases) → ((n : ℕ) → e.wire ≡ wire.Bg n → ⊥) → (e.wire ≡ wire.BgOut → ⊥) → (e.wire ≡ wire.Bbsy → ⊥) → CoversGrants p h set → CoversGrants p (e ∷ h) set
+pub keeps : (p : Plan) (h : List Edge) (e : Edge) (set : GrantPhases) → ((n : ℕ) → e.wire ≡ wire.Bg n → ⊥) → (e.wire ≡ wire.BgOut → ⊥) → (e.wire ≡ wire.Bbsy → ⊥) → CoversGrants p h set
+    → CoversGrants p (e ∷ h) set
 keeps p h e set a b c covers = record {
   phase = covers.phase;
   is_in = other_in p h covers.phase e.driver e.wire e.fall e.value a b c covers.is_in;
@@ -170,7 +171,8 @@ pub cleared_by : (version : Version) (p : Plan) → IsAccepted p → (pins : Lis
 cleared_by version p ok pins h e v legal s is =
     (bclr_is e.driver e.wire (board_of p e.driver) (all_passed version p h e.driver e.wire e.fall e.value legal.0).wire (line_is p pins h e v s on_line.Bclr is)).0
 
-module _ (version : Version) (p : Plan) (ok : IsAccepted p) (pins : List Pin) (h : List Edge) (e : Edge) (v : Change) (legal : IsLegal version p (e ∷ h)) (s : seen p pins h e ≡ Some v) (old : GrantPhases) (covers : CoversGrants p h old) where
+module _ (version : Version) (p : Plan) (ok : IsAccepted p) (pins : List Pin) (h : List Edge) (e : Edge) (v : Change) (legal : IsLegal version p (e ∷ h)) (s : seen p pins h e ≡ Some v)
+    (old : GrantPhases) (covers : CoversGrants p h old) where
   legal_as : (x : Edge) → e ≡ x → IsLegal version p (x ∷ h)
   legal_as x same = subst (λ y. IsLegal version p (y ∷ h)) same legal
 
@@ -269,7 +271,8 @@ module _ (version : Version) (p : Plan) (ok : IsAccepted p) (pins : List Pin) (h
         let x = held_from p h b (holds_bus version p ok pins h e legal b driver w f) covers.phase covers.is_in in
         (x.0, subst (λ q. has_phase old q ≡ true) x.1 covers.member))
 
-    pub strobed_covers : (boards : SlotSet) → ((b : ℕ) → e.driver ≡ Slot b → has boards b ≡ true) → (new : GrantPhases) → HasExactly new (λ q. is_held_by (has boards) q && has_phase old q) → CoversGrants p (e ∷ h) new
+    pub strobed_covers : (boards : SlotSet) → ((b : ℕ) → e.driver ≡ Slot b → has boards b ≡ true) → (new : GrantPhases) → HasExactly new (λ q. is_held_by (has boards) q && has_phase old q)
+        → CoversGrants p (e ∷ h) new
     strobed_covers boards among new exact =
         (fall_by version p ok h e legal wire.AddressStrobe (λ b. CoversGrants p (e ∷ h) new) falls.0 falls.1
         (λ b driver w f.
@@ -300,7 +303,8 @@ module _ (version : Version) (p : Plan) (ok : IsAccepted p) (pins : List Pin) (h
           by_requester None at y = absurd (cc)
           by_requester (Some q) at y =
               ap (λ l. is_asked_above l requests) (same_level q.level (last_granted h) y)
-              ∙ four_same (λ m. nat_lt (last_granted h) m && has_bus_level requests m) (λ m. nat_lt (last_granted h) m && request_line p h m) (λ m few. ap (λ b. nat_lt (last_granted h) m && b) (asked m few))
+              ∙ four_same (λ m. nat_lt (last_granted h) m && has_bus_level requests m) (λ m. nat_lt (last_granted h) m && request_line p h m)
+              (λ m few. ap (λ b. nat_lt (last_granted h) m && b) (asked m few))
 
       -- while a board holds the bus its first low segment is the controller's exactly if that is low
       head_high : (k x : ℕ) → InPhase p h (Held k x) → 0 < x → (m : ℕ) → m < 4 → drive h Controller (wire.Bg m) ≡ false
@@ -360,9 +364,11 @@ module _ (version : Version) (p : Plan) (ok : IsAccepted p) (pins : List Pin) (h
 
       due_fall : (fall : Bool) → v.fall ≡ fall → due_now ≡ fall
       due_fall true f =
-          (all_passed version p h Controller wire.Bclr true e.value (legal_as (at_head wire.Bclr true e.value) (as_edge e Controller wire.Bclr true clear_is.0 clear_is.1 (way p ok pins h e v s true f))).0).rule
+          (all_passed version p h Controller wire.Bclr true e.value (legal_as (at_head wire.Bclr true e.value)
+          (as_edge e Controller wire.Bclr true clear_is.0 clear_is.1 (way p ok pins h e v s true f))).0).rule
       due_fall false f =
-          not_true due_now (all_passed version p h Controller wire.Bclr false e.value (legal_as (at_head wire.Bclr false e.value) (as_edge e Controller wire.Bclr false clear_is.0 clear_is.1 (way p ok pins h e v s false f))).0).rule
+          not_true due_now (all_passed version p h Controller wire.Bclr false e.value (legal_as (at_head wire.Bclr false e.value)
+          (as_edge e Controller wire.Bclr false clear_is.0 clear_is.1 (way p ok pins h e v s false f))).0).rule
 
       pub cleared_able : are_alike (is_clear_due p requests covers.phase) v.fall ≡ true
       cleared_able = alike due_now (due covers.phase covers.is_in) v.fall (due_fall v.fall refl)

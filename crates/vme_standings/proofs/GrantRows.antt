@@ -48,7 +48,8 @@ less : (a b : ℕ) → a < b → nat_lt a b ≡ true
 less a b l = grind (arith, nat_tests)
 
 -- the segment may rise: a board took the grant, or nobody did
-pub turn_able : (version : Version) (p : Plan) → IsAccepted p → (h : List Edge) (e : Edge) (m x : ℕ) → m < 4 → (old : GrantPhases) (q : GrantPhase) → has_phase old q ≡ true → Turns version p h e m x q → can_rise p version m x old ≡ true
+pub turn_able : (version : Version) (p : Plan) → IsAccepted p → (h : List Edge) (e : Edge) (m x : ℕ) → m < 4 → (old : GrantPhases) (q : GrantPhase) → has_phase old q ≡ true → Turns version p h e m x q
+    → can_rise p version m x old ≡ true
 turn_able version p ok h e m x few old q on (KeptBy k f member l to follows same i) =
     second (is_run_out p version m x old) (list_any (is_let_go p m x old) (active p (grant_chain m)))
     (any_of (is_let_go p m x old) (active p (grant_chain m)) k (is_member p (in_range p ok) m k few member)
@@ -57,7 +58,8 @@ turn_able version p ok h e m x few old q on (KeptBy k f member l to follows same
     second : (a b : Bool) → b ≡ true → (a || b) ≡ true
     second a b is = grind arith
 turn_able version p ok h e m x few old q on (RunOn f two from follows same i) =
-    first (is_two version) (x == 0) (has_phase old (Granting m (end_place p m))) (has_phase old (Expired m x)) (list_any (is_let_go p m x old) (active p (grant_chain m))) two (above x from) (subst (λ r. has_phase old r ≡ true) same on)
+    first (is_two version) (x == 0) (has_phase old (Granting m (end_place p m))) (has_phase old (Expired m x)) (list_any (is_let_go p m x old) (active p (grant_chain m))) two (above x from)
+    (subst (λ r. has_phase old r ≡ true) same on)
   where
     above : (x : ℕ) → 0 < x → (x == 0) ≡ false
     above x from = grind (arith, nat_tests)
@@ -65,7 +67,8 @@ turn_able version p ok h e m x few old q on (RunOn f two from follows same i) =
     first : (a t b c d : Bool) → a ≡ true → t ≡ false → c ≡ true → ((a && (if t then b else c)) || d) ≡ true
     first a t b c d f g i = grind arith
 turn_able version p ok h e m x few old q on (AllRun two from end same i) =
-    first (is_two version) (x == 0) (has_phase old (Granting m (end_place p m))) (has_phase old (Expired m x)) (list_any (is_let_go p m x old) (active p (grant_chain m))) two (above x from) (subst (λ r. has_phase old r ≡ true) same on)
+    first (is_two version) (x == 0) (has_phase old (Granting m (end_place p m))) (has_phase old (Expired m x)) (list_any (is_let_go p m x old) (active p (grant_chain m))) two (above x from)
+    (subst (λ r. has_phase old r ≡ true) same on)
   where
     above : (x : ℕ) → 0 < x → (x == 0) ≡ false
     above x from = grind (arith, nat_tests)
@@ -73,7 +76,8 @@ turn_able version p ok h e m x few old q on (AllRun two from end same i) =
     first : (a t b c d : Bool) → a ≡ true → t ≡ false → c ≡ true → ((a && (if t then b else c)) || d) ≡ true
     first a t b c d f g i = grind arith
 turn_able version p ok h e m x few old q on (GoneBack f two none follows same i) =
-    first (is_two version) (x == 0) (has_phase old (Granting m (end_place p m))) (has_phase old (Expired m x)) (list_any (is_let_go p m x old) (active p (grant_chain m))) two (equal x 0 none) (subst (λ r. has_phase old r ≡ true) same on)
+    first (is_two version) (x == 0) (has_phase old (Granting m (end_place p m))) (has_phase old (Expired m x)) (list_any (is_let_go p m x old) (active p (grant_chain m))) two (equal x 0 none)
+    (subst (λ r. has_phase old r ≡ true) same on)
   where
     first : (a t b c d : Bool) → a ≡ true → t ≡ true → b ≡ true → ((a && (if t then b else c)) || d) ≡ true
     first a t b c d f g i = grind arith
@@ -132,7 +136,8 @@ module _ (version : Version) (p : Plan) (ok : IsAccepted p) (h : List Edge) (e :
       first : (x : ℕ) → x ≡ 0 → (a b : Bool) → a ≡ true → (if x == 0 then a else b) ≡ true
       first x none a b is = grind (arith, nat_tests)
 
-module _ (version : Version) (p : Plan) (ok : IsAccepted p) (pins : List Pin) (h : List Edge) (e : Edge) (v : Change) (legal : IsLegal version p (e ∷ h)) (s : seen p pins h e ≡ Some v) (pin : Pin) (c place : ℕ) (few : c < 4) (is : v.signal ≡ signal.Pin pin) (wire : wire_of p pin ≡ grant_segment c place) where
+module _ (version : Version) (p : Plan) (ok : IsAccepted p) (pins : List Pin) (h : List Edge) (e : Edge) (v : Change) (legal : IsLegal version p (e ∷ h)) (s : seen p pins h e ≡ Some v) (pin : Pin)
+    (c place : ℕ) (few : c < 4) (is : v.signal ≡ signal.Pin pin) (wire : wire_of p pin ≡ grant_segment c place) where
   legal_as : (x : Edge) → e ≡ x → IsLegal version p (x ∷ h)
   legal_as x same = subst (λ y. IsLegal version p (y ∷ h)) same legal
 

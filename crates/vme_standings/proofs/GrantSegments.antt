@@ -105,7 +105,8 @@ module _ (p : Plan) (ok : IsAccepted p) where
     pub edge : IsOfGrant e c place
     pub member : is_segment p c place ≡ true
 
-  pub of_grant : (e : Edge) (c place : ℕ) → c < 4 → has_wire e.driver e.wire ≡ true → has_driver p e.driver e.wire ≡ true → segment_of e.wire (board_of p e.driver) ≡ Some (grant_segment c place) → OfGrant e c place
+  pub of_grant : (e : Edge) (c place : ℕ) → c < 4 → has_wire e.driver e.wire ≡ true → has_driver p e.driver e.wire ≡ true → segment_of e.wire (board_of p e.driver) ≡ Some (grant_segment c place)
+      → OfGrant e c place
   of_grant e c place few has exists is = by_wire e.driver e.wire refl refl has exists is
     where
       of_controller : (n place : ℕ) → e.driver ≡ Controller → e.wire ≡ wire.Bg n → (n ≡ c) × (0 ≡ place) → OfGrant e c place

@@ -52,7 +52,8 @@ board_withdrew p n (x ∷ h) e = by_edge (is_grant x) (withdraws p h n x) refl e
     by_driver Controller on = absurd (cc)
     by_driver (Slot s) on = (s, on)
 
-    by_edge : (a b : Bool) → withdraws p h n x ≡ b → (if a then false else (b || was_withdrawn p h n)) ≡ true → (was_withdrawn p h n ≡ true → (s : ℕ) × (is_of_level p n s ≡ true)) → (s : ℕ) × (is_of_level p n s ≡ true)
+    by_edge : (a b : Bool) → withdraws p h n x ≡ b → (if a then false else (b || was_withdrawn p h n)) ≡ true → (was_withdrawn p h n ≡ true → (s : ℕ) × (is_of_level p n s ≡ true)) → (s : ℕ)
+        × (is_of_level p n s ≡ true)
     by_edge true b is on further = absurd (cc)
     by_edge false true is on further = by_driver x.driver (and_right (not x.fall && is_same_wire x.wire Br && not (drive h x.driver Bbsy)) _ is)
     by_edge false false is on further = further on
@@ -218,7 +219,8 @@ module _ (version : Version) (p : Plan) (ok : IsAccepted p) (h : List Edge) (s :
           ⊎_elim (λ (l : s < a.waiter). omega (arith, l, to))
           (λ (l : a.waiter ≤ s).
           let own : a.waiter ≡ s = omega (arith, l, from, same) in
-          absurd (never (drive h (Slot s) Br) (subst (λ t. drive h (Slot t) Br ≡ true) own a.waits) (not_true (drive h (Slot s) Br) (and_right (grant_in p h (Slot s)) (not (drive h (Slot s) Br)) pass_tests))))
+          absurd (never (drive h (Slot s) Br) (subst (λ t. drive h (Slot t) Br ≡ true) own a.waits)
+          (not_true (drive h (Slot s) Br) (and_right (grant_in p h (Slot s)) (not (drive h (Slot s) Br)) pass_tests))))
           (by_order s a.waiter)
         where
           by_order : (a b : ℕ) → (a < b) ⊎ (b ≤ a)

@@ -82,7 +82,8 @@ no_value None e = refl
 no_value (Some u) e = absurd (cc)
 
 -- the byte that was captured is that of the board
-status_of : (n : ℕ) (o : Option ℕ) (r : Option Row) (b : ℕ) → are_values_of (Some (value.Status b)) (option_map (λ (d : Delivery). value.Status d.status) (delivered_by (Some (cycle.Acknowledge n)) o r)) ≡ true → option_map_or (is_meant (WithStatus b)) r false ≡ true
+status_of : (n : ℕ) (o : Option ℕ) (r : Option Row) (b : ℕ) → are_values_of (Some (value.Status b))
+    (option_map (λ (d : Delivery). value.Status d.status) (delivered_by (Some (cycle.Acknowledge n)) o r)) ≡ true → option_map_or (is_meant (WithStatus b)) r false ≡ true
 status_of n None r b e = absurd (cc)
 status_of n (Some to) None b e = absurd (cc)
 status_of n (Some to) (Some row) b e = by_interrupter row.interrupter e
@@ -90,11 +91,13 @@ status_of n (Some to) (Some row) b e = by_interrupter row.interrupter e
     flipped : (a b : ℕ) → (a == b) ≡ true → (b == a) ≡ true
     flipped a b x = grind (arith, nat_tests)
 
-    by_interrupter : (i : Option InterrupterRow) → are_values_of (Some (value.Status b)) (option_map (λ (d : Delivery). value.Status d.status) (option_map (λ x. record { handler = to; level = n; answered_by = row.slot; status = x.status }) i)) ≡ true → option_map_or (is_such (WithStatus b)) i false ≡ true
+    by_interrupter : (i : Option InterrupterRow) → are_values_of (Some (value.Status b)) (option_map (λ (d : Delivery). value.Status d.status)
+        (option_map (λ x. record { handler = to; level = n; answered_by = row.slot; status = x.status }) i)) ≡ true → option_map_or (is_such (WithStatus b)) i false ≡ true
     by_interrupter None x = absurd (cc)
     by_interrupter (Some i) x = flipped b i.status x
 
-module _ (probed : Probed) (p : Plan) (ok : IsAccepted p) (pins : List Pin) (h : List Edge) (e : Edge) (v : Change) (legal : IsLegal probed.version p (e ∷ h)) (s : seen p pins h e ≡ Some v) (st : Standings) (covers : Covers p pins h st)
+module _ (probed : Probed) (p : Plan) (ok : IsAccepted p) (pins : List Pin) (h : List Edge) (e : Edge) (v : Change) (legal : IsLegal probed.version p (e ∷ h)) (s : seen p pins h e ≡ Some v)
+    (st : Standings) (covers : Covers p pins h st)
     (is : v.signal ≡ signal.Line on_line.Dtack) (fall : v.fall ≡ true) (val : Option Value) (agree : are_values_of val v.value ≡ true) where
   abbrev version : Version
   version = probed.version
@@ -231,12 +234,16 @@ module _ (probed : Probed) (p : Plan) (ok : IsAccepted p) (pins : List Pin) (h :
         ∙ ap (λ o. option_map (λ (d : Delivery). value.Status d.status) (delivered_by o (addressing p h) (board_of p e.driver))) shows
         ∙ ap (λ d. option_map (λ (x : Delivery). value.Status x.status) (delivered_by (Some (cycle.Acknowledge n)) (addressing p h) (board_of p d))) driver_is)
         agree)))
-    with_byte (Some (value.Shown u)) same = absurd (not_shown (delivered_by (shown p h) (addressing p h) (board_of p e.driver)) (subst (λ z. are_values_of z (option_map (λ (d : Delivery). value.Status d.status) (delivered_by (shown p h) (addressing p h) (board_of p e.driver))) ≡ true) same (subst (λ o. are_values_of val o ≡ true) delivered agree)))
+    with_byte (Some (value.Shown u)) same = absurd (not_shown (delivered_by (shown p h) (addressing p h) (board_of p e.driver))
+        (subst (λ z. are_values_of z (option_map (λ (d : Delivery). value.Status d.status) (delivered_by (shown p h) (addressing p h) (board_of p e.driver))) ≡ true) same
+        (subst (λ o. are_values_of val o ≡ true) delivered agree)))
       where
         not_shown : (o : Option Delivery) → are_values_of (Some (value.Shown u)) (option_map (λ (d : Delivery). value.Status d.status) o) ≡ true → ⊥
         not_shown None y = cc
         not_shown (Some d) y = cc
-    with_byte (Some value.Access) same = absurd (not_access (delivered_by (shown p h) (addressing p h) (board_of p e.driver)) (subst (λ z. are_values_of z (option_map (λ (d : Delivery). value.Status d.status) (delivered_by (shown p h) (addressing p h) (board_of p e.driver))) ≡ true) same (subst (λ o. are_values_of val o ≡ true) delivered agree)))
+    with_byte (Some value.Access) same = absurd (not_access (delivered_by (shown p h) (addressing p h) (board_of p e.driver))
+        (subst (λ z. are_values_of z (option_map (λ (d : Delivery). value.Status d.status) (delivered_by (shown p h) (addressing p h) (board_of p e.driver))) ≡ true) same
+        (subst (λ o. are_values_of val o ≡ true) delivered agree)))
       where
         not_access : (o : Option Delivery) → are_values_of (Some value.Access) (option_map (λ (d : Delivery). value.Status d.status) o) ≡ true → ⊥
         not_access None y = cc
@@ -254,7 +261,8 @@ module _ (probed : Probed) (p : Plan) (ok : IsAccepted p) (pins : List Pin) (h :
         (subst (λ t. is_reached st.fronts p t ≡ true) (sym (one_of at_front.slot at_front.driver)) at_front.fact)
         (with_byte val refl)
 
-    fronts_after : (new : Fronts) → ((boards : SlotSet) → AreAnswerers p st val boards → has boards who.slot ≡ true) → (boards : SlotSet) × AreAnswerers p st val boards × Reaches p boards new → CoversFronts p (e ∷ h) new
+    fronts_after : (new : Fronts) → ((boards : SlotSet) → AreAnswerers p st val boards → has boards who.slot ≡ true) → (boards : SlotSet) × AreAnswerers p st val boards × Reaches p boards new
+        → CoversFronts p (e ∷ h) new
     fronts_after new held (boards, them, reach) =
         answer_keeps version p ok pins h e v legal s is fall n shows st.fronts covers.fronts new
         (λ t driver.
@@ -262,9 +270,11 @@ module _ (probed : Probed) (p : Plan) (ok : IsAccepted p) (pins : List Pin) (h :
         subst (λ u. has new.ends (input_place p u) ≡ true) (one_of t driver)
         (reach.all who.slot (subst (λ u. 0 < u) (sym same) may.positive) (subst (λ u. u < 22) (sym same) may.near) (held boards them)))
 
-    requests_after : (new : Requests) → ((boards : SlotSet) → AreAnswerers p st val boards → has boards who.slot ≡ true) → (boards roak : SlotSet) × AreAnswerers p st val boards × AreRoak p roak × Acknowledged boards roak st.requests new → CoversRequests p (e ∷ h) (may_be new)
+    requests_after : (new : Requests) → ((boards : SlotSet) → AreAnswerers p st val boards → has boards who.slot ≡ true) → (boards roak : SlotSet) × AreAnswerers p st val boards × AreRoak p roak
+        × Acknowledged boards roak st.requests new → CoversRequests p (e ∷ h) (may_be new)
     requests_after new held (boards, roak, them, are, a) =
-        acknowledge_keeps version p pins h e v st.requests new ok legal s covers.requests is fall n shows roak boards are (λ t driver. subst (λ u. has boards u ≡ true) (one_of t driver) (held boards them)) a
+        acknowledge_keeps version p pins h e v st.requests new ok legal s covers.requests is fall n shows roak boards are
+        (λ t driver. subst (λ u. has boards u ≡ true) (one_of t driver) (held boards them)) a
 
   -- by what is known to be shown
   answers : (k : Option Shown) (c : Cycle) → shown p h ≡ Some c → option_map_or (says c) k false ≡ true → (boards : SlotSet) → AnswersShown p st val k boards → has boards who.slot ≡ true

@@ -66,11 +66,13 @@ found_there test (x ∷ pins) q is = by_test (test x) is (found_there test pins 
     same : Some x ≡ Some q → x ≡ q
     same e = cc
 
-    by_test : (b : Bool) → (if b then Some x else find test pins) ≡ Some q → (find test pins ≡ Some q → list_any (is_same_pin q) pins ≡ true) → (is_same_pin q x || list_any (is_same_pin q) pins) ≡ true
+    by_test : (b : Bool) → (if b then Some x else find test pins) ≡ Some q → (find test pins ≡ Some q → list_any (is_same_pin q) pins ≡ true)
+        → (is_same_pin q x || list_any (is_same_pin q) pins) ≡ true
     by_test true e next = or_left (is_same_pin q x) (list_any (is_same_pin q) pins) (subst (λ y. is_same_pin q y ≡ true) (sym (same e)) (same_pin q))
     by_test false e next = or_true (is_same_pin q x) (list_any (is_same_pin q) pins) (next e)
 
-module _ (p : Plan) (ok : IsAccepted p) (probed : Probed) (c : Capture) (version_is : c.version ≡ probed.version) (probes : AreProbed p c.pins probed.segments) (g : List Edge) (begins : Begins p c g) where
+module _ (p : Plan) (ok : IsAccepted p) (probed : Probed) (c : Capture) (version_is : c.version ≡ probed.version) (probes : AreProbed p c.pins probed.segments) (g : List Edge)
+    (begins : Begins p c g) where
   legal : IsLegal probed.version p g
   legal = subst (λ v. IsLegal v p g) version_is begins.legal
 
@@ -100,10 +102,12 @@ module _ (p : Plan) (ok : IsAccepted p) (probed : Probed) (c : Capture) (version
             let r = starts.running is in
             runs_covered p ok probed c.pins probes g legal r.lines r.low (levels_of r.lines r.low r.said) (r.said.shared on_line.AddressStrobe refl ∙ r.high) first r.known
 
-    pub explained : (h : List Edge) → IsLegal c.version p (h ++ g) → (cs : List Change) → AgreeEach cs (sightings p c.pins g h) → (behind last : Standings) → Follows p probed first cs behind → HasMoved p probed behind last → Covers p c.pins (h ++ g) last
+    pub explained : (h : List Edge) → IsLegal c.version p (h ++ g) → (cs : List Change) → AgreeEach cs (sightings p c.pins g h) → (behind last : Standings) → Follows p probed first cs behind
+        → HasMoved p probed behind last → Covers p c.pins (h ++ g) last
     explained h l cs agree behind last follows moved = followed p ok probed c.pins probes g first covers_first h (subst (λ v. IsLegal v p (h ++ g)) version_is l) cs agree behind last follows moved
 
-    pub never_impossible : (h : List Edge) → IsLegal c.version p (h ++ g) → (v : Change) (cs : List Change) → AgreeEach (v ∷ cs) (sightings p c.pins g h) → (behind last : Standings) → Follows p probed first cs behind → HasMoved p probed behind last
+    pub never_impossible : (h : List Edge) → IsLegal c.version p (h ++ g) → (v : Change) (cs : List Change) → AgreeEach (v ∷ cs) (sightings p c.pins g h) → (behind last : Standings)
+        → Follows p probed first cs behind → HasMoved p probed behind last
         → (d : Drivers) → AreDrivers p probed last v d → is_nobody d ≡ false
     never_impossible h l v cs agree behind last follows moved d drivers =
         newest_somebody p ok probed c.pins probes g first covers_first h (subst (λ x. IsLegal x p (h ++ g)) version_is l) v cs agree behind last follows moved d drivers

@@ -68,7 +68,8 @@ module _ (version : Version) (p : Plan) (ok : IsAccepted p) where
   driven_by h w low = line_from p (in_range p ok) h w low
 
   -- what an edge of an address group shows
-  shows_after : (h : List Edge) (s : ℕ) (fall : Bool) (v : Option Cycle) → IsLegal version p (at s wire.Addr fall v ∷ h) → (shown p (at s wire.Addr fall v ∷ h) ≡ v) × (has_value wire.Addr fall v ≡ true)
+  shows_after : (h : List Edge) (s : ℕ) (fall : Bool) (v : Option Cycle) → IsLegal version p (at s wire.Addr fall v ∷ h) → (shown p (at s wire.Addr fall v ∷ h) ≡ v)
+      × (has_value wire.Addr fall v ≡ true)
   shows_after h s fall v legal =
       let b = standing version p h s (at s wire.Addr fall v) legal.0 refl in
       let d = driven version p h s b.row wire.Addr fall v b.found legal.0 in
@@ -178,7 +179,8 @@ module _ (version : Version) (p : Plan) (ok : IsAccepted p) where
 pub strobed_kept : (h : List Edge) (e : Edge) (x : Bool) → (e.wire ≡ wire.AddressStrobe → ⊥) → (e.wire ≡ wire.DataStrobe → e.fall ≡ false) → KnowsStrobed h x → KnowsStrobed (e ∷ h) x
 strobed_kept h e x a b k = by_edge e.driver e.wire e.fall e.value a b
   where
-    by_edge : (d : Driver) (w : Wire) (fall : Bool) (v : Option Cycle) → (w ≡ wire.AddressStrobe → ⊥) → (w ≡ wire.DataStrobe → fall ≡ false) → KnowsStrobed (record { driver = d; wire = w; fall = fall; value = v } ∷ h) x
+    by_edge : (d : Driver) (w : Wire) (fall : Bool) (v : Option Cycle) → (w ≡ wire.AddressStrobe → ⊥) → (w ≡ wire.DataStrobe → fall ≡ false)
+        → KnowsStrobed (record { driver = d; wire = w; fall = fall; value = v } ∷ h) x
     by_edge d wire.AddressStrobe fall v a b = absurd (a refl)
     by_edge d wire.DataStrobe true v a b = absurd (never true refl (b refl))
     by_edge d w true v a b = k

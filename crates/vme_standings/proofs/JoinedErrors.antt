@@ -61,7 +61,8 @@ not_there a (y ∷ ss) none = by_test (y == a) refl none (not_there a ss)
     other : (y a : ℕ) → (y == a) ≡ false → eqb a y ≡ false
     other y a e = grind (arith, nat_tests)
 
-    by_test : (b : Bool) → (y == a) ≡ b → length (if b then y ∷ filter (λ t. t == a) ss else filter (λ t. t == a) ss) ≤ 0 → (times ss a ≤ 0 → AllByRecursion (λ z. eqb a z ≡ false) ss) → (eqb a y ≡ false) × AllByRecursion (λ z. eqb a z ≡ false) ss
+    by_test : (b : Bool) → (y == a) ≡ b → length (if b then y ∷ filter (λ t. t == a) ss else filter (λ t. t == a) ss) ≤ 0 → (times ss a ≤ 0 → AllByRecursion (λ z. eqb a z ≡ false) ss)
+        → (eqb a y ≡ false) × AllByRecursion (λ z. eqb a z ≡ false) ss
     by_test true e x next = absurd (omega (arith, x))
     by_test false e x next = (other y a e, next x)
 
@@ -119,9 +120,12 @@ pub one_empty : (p : Plan) → IsAccepted p → (x : ℕ) → is_slot x ≡ true
 one_empty p ok x slot none =
     let range = in_range p ok in
     let most = range.most in
-    let d = distinct (slots_of p.rows) (Slots p.slots) (each_slot p.rows (IsRowInRange p) (Slots p.slots) range.rows (λ r i. record { from = i.from_one; to = i.to_last })) (λ a w. named_once p ok a w.from w.to) in
-    let whole = with_two 0 x (slots_of p.rows) (above x slot) (apart 0 (IsRowInRange p) p.rows range.rows (λ r i. positive r.slot i.from_one)) (apart x (IsRowInRange p) p.rows range.rows (λ r i. other r i.alone)) d in
-    few (length p.rows) (length (slots_of p.rows)) (same_length p.rows) (length-le_from_distinct_below (0 ∷ x ∷ slots_of p.rows) 22 whole (λ q on. near q on (slots_near p.rows p.slots (IsRowInRange p) range.rows (λ r i. i.to_last) q) most))
+    let d = distinct (slots_of p.rows) (Slots p.slots) (each_slot p.rows (IsRowInRange p) (Slots p.slots) range.rows (λ r i. record { from = i.from_one; to = i.to_last }))
+    (λ a w. named_once p ok a w.from w.to) in
+    let whole = with_two 0 x (slots_of p.rows) (above x slot) (apart 0 (IsRowInRange p) p.rows range.rows (λ r i. positive r.slot i.from_one))
+    (apart x (IsRowInRange p) p.rows range.rows (λ r i. other r i.alone)) d in
+    few (length p.rows) (length (slots_of p.rows)) (same_length p.rows) (length-le_from_distinct_below (0 ∷ x ∷ slots_of p.rows) 22 whole
+    (λ q on. near q on (slots_near p.rows p.slots (IsRowInRange p) range.rows (λ r i. i.to_last) q) most))
   where
     above : (x : ℕ) → is_slot x ≡ true → eqb 0 x ≡ false
     above x e = grind (arith, nat_tests)
@@ -160,7 +164,8 @@ one_empty p ok x slot none =
 pub ends_same : (p : Plan) → IsAccepted p → last_place p ≡ end_of_chain p
 ends_same p ok = ap place_of (last_of (interrupts p) p.slots 21 (in_range p ok).most)
 
-module _ (probed : Probed) (p : Plan) (ok : IsAccepted p) (pins : List Pin) (h : List Edge) (e : Edge) (v : Change) (legal : IsLegal probed.version p (e ∷ h)) (s : seen p pins h e ≡ Some v) (st : Standings) (covers : Covers p pins h st)
+module _ (probed : Probed) (p : Plan) (ok : IsAccepted p) (pins : List Pin) (h : List Edge) (e : Edge) (v : Change) (legal : IsLegal probed.version p (e ∷ h)) (s : seen p pins h e ≡ Some v)
+    (st : Standings) (covers : Covers p pins h st)
     (is : v.signal ≡ signal.Line on_line.Berr) (fall : v.fall ≡ true) where
   abbrev version : Version
   version = probed.version
@@ -193,7 +198,8 @@ module _ (probed : Probed) (p : Plan) (ok : IsAccepted p) (pins : List Pin) (h :
   no_board None x = refl
   no_board (Some r) x = absurd (cc)
 
-  nobody : (k : Option Shown) (c : Cycle) → shown p h ≡ Some c → is_in_range c ≡ true → is_unanswerable p h (Some c) ≡ true → option_map_or (says c) k false ≡ true → nobody_answers p st.fronts k ≡ true
+  nobody : (k : Option Shown) (c : Cycle) → shown p h ≡ Some c → is_in_range c ≡ true → is_unanswerable p h (Some c) ≡ true → option_map_or (says c) k false ≡ true
+      → nobody_answers p st.fronts k ≡ true
   nobody (Some (known.Acknowledge m)) (cycle.Acknowledge n) x range far on =
       subst (λ t. has st.fronts.ends t ≡ true) (sym (ends_same p ok)) (error_at_end version p ok pins h e v legal s is fall n x st.fronts covers.fronts)
   nobody (Some (known.Access (Some t))) (cycle.Access y) x range far on =

@@ -39,7 +39,8 @@ self_board t = both (nat_lt 0 (suc t)) (suc t == suc t) (above t) (self (suc t))
     self : (n : ℕ) → (n == n) ≡ true
     self n = grind (arith, nat_tests)
 
-module _ (probed : Probed) (p : Plan) (ok : IsAccepted p) (pins : List Pin) (h : List Edge) (e : Edge) (v : Change) (legal : IsLegal probed.version p (e ∷ h)) (s : seen p pins h e ≡ Some v) (st : Standings) (covers : Covers p pins h st)
+module _ (probed : Probed) (p : Plan) (ok : IsAccepted p) (pins : List Pin) (h : List Edge) (e : Edge) (v : Change) (legal : IsLegal probed.version p (e ∷ h)) (s : seen p pins h e ≡ Some v)
+    (st : Standings) (covers : Covers p pins h st)
     (q : Pin) (c place : ℕ) (few : c < 4) (is : v.signal ≡ signal.Pin q) (at : wire_of p q ≡ grant_segment c place) (m : moved_by p (signal.Pin q) ≡ moved.Grant c place) where
   abbrev version : Version
   version = probed.version
@@ -55,16 +56,22 @@ module _ (probed : Probed) (p : Plan) (ok : IsAccepted p) (pins : List Pin) (h :
       by_place zero o = a (sym o.1 ∙ same)
       by_place (suc t) o = b (sym o.1 ∙ same)
 
-  rest : (f : Bool) (val : Option Value) → v.fall ≡ f → (new : Standings) → IsBehind p probed st (record { signal = signal.Pin q; fall = f; value = val }) new → CoversGrants p (e ∷ h) new.phases → Covers p pins (e ∷ h) new
+  rest : (f : Bool) (val : Option Value) → v.fall ≡ f → (new : Standings) → IsBehind p probed st (record { signal = signal.Pin q; fall = f; value = val }) new → CoversGrants p (e ∷ h) new.phases
+      → Covers p pins (e ∷ h) new
   rest f val fall new b phases = record {
     levels = levels_now probed p ok pins h e v legal s st covers (signal.Pin q) f val is fall new b;
     shown = kept_shown probed p ok pins h e v legal s st covers new.shown (subst (λ y. new.shown ≡ shown_behind y f val st.shown) m b.shown) (other wire.AddressStrobe (λ y. cc) (λ y. cc));
-    strobed = kept_strobed probed p ok pins h e v legal s st covers new.strobed (subst (λ y. new.strobed ≡ strobed_behind y f st.strobed) m b.strobed) (other wire.AddressStrobe (λ y. cc) (λ y. cc)) (λ y. absurd (other wire.DataStrobe (λ z. cc) (λ z. cc) y));
+    strobed = kept_strobed probed p ok pins h e v legal s st covers new.strobed (subst (λ y. new.strobed ≡ strobed_behind y f st.strobed) m b.strobed) (other wire.AddressStrobe (λ y. cc) (λ y. cc))
+        (λ y. absurd (other wire.DataStrobe (λ z. cc) (λ z. cc) y));
     phases = phases;
-    addressers = kept_drivers probed p ok pins h e v legal s st covers wire.AddressStrobe new.addressers st.addressers (subst (λ y. AddressersBehind p st y f val new.addressers) m b.addressers) covers.addressers (other wire.AddressStrobe (λ y. cc) (λ y. cc));
-    answerers = kept_drivers probed p ok pins h e v legal s st covers wire.Dtack new.answerers st.answerers (subst (λ y. AnswerersBehind p st y f val new.answerers) m b.answerers) covers.answerers (other wire.Dtack (λ y. cc) (λ y. cc));
-    fronts = kept_fronts probed p ok pins h e v legal s st covers new.fronts (subst (λ y. FrontsBehind p st y f val new.fronts) m b.fronts) (other wire.AddressStrobe (λ y. cc) (λ y. cc)) (λ y. absurd (other wire.Iack (λ z. cc) (λ z. cc) y)) (λ y. absurd (other wire.IackOut (λ z. cc) (λ z. cc) y));
-    requests = kept_requests probed p ok pins h e v legal s st covers new.requests (subst (λ y. RequestsBehind p st y f val new.requests) m b.requests) (other wire.Irq (λ y. cc) (λ y. cc)) (λ y. absurd (other wire.Dtack (λ z. cc) (λ z. cc) y));
+    addressers = kept_drivers probed p ok pins h e v legal s st covers wire.AddressStrobe new.addressers st.addressers
+        (subst (λ y. AddressersBehind p st y f val new.addressers) m b.addressers) covers.addressers (other wire.AddressStrobe (λ y. cc) (λ y. cc));
+    answerers = kept_drivers probed p ok pins h e v legal s st covers wire.Dtack new.answerers st.answerers (subst (λ y. AnswerersBehind p st y f val new.answerers) m b.answerers) covers.answerers
+        (other wire.Dtack (λ y. cc) (λ y. cc));
+    fronts = kept_fronts probed p ok pins h e v legal s st covers new.fronts (subst (λ y. FrontsBehind p st y f val new.fronts) m b.fronts) (other wire.AddressStrobe (λ y. cc) (λ y. cc))
+        (λ y. absurd (other wire.Iack (λ z. cc) (λ z. cc) y)) (λ y. absurd (other wire.IackOut (λ z. cc) (λ z. cc) y));
+    requests = kept_requests probed p ok pins h e v legal s st covers new.requests (subst (λ y. RequestsBehind p st y f val new.requests) m b.requests) (other wire.Irq (λ y. cc) (λ y. cc))
+        (λ y. absurd (other wire.Dtack (λ z. cc) (λ z. cc) y));
   }
 
   pub grant_falls : (val : Option Value) → v.fall ≡ true → Step probed p ok pins h e v legal s st covers (signal.Pin q) true val
@@ -73,7 +80,8 @@ module _ (probed : Probed) (p : Plan) (ok : IsAccepted p) (pins : List Pin) (h :
     covers = λ new b. rest true val fall new b (phases new (subst (λ y. PhasesBehind p version st y true val new.phases) m b.phases) place refl);
   }
     where
-      by_place : (d : Drivers) → ControllerMakes p version st (moved.Grant c place) true d.controller → BoardsMake p version st (moved.Grant c place) true val d.boards → (t : ℕ) → place ≡ t → Among d e.driver
+      by_place : (d : Drivers) → ControllerMakes p version st (moved.Grant c place) true d.controller → BoardsMake p version st (moved.Grant c place) true val d.boards → (t : ℕ) → place ≡ t
+          → Among d e.driver
       by_place d head boards zero none =
           let o = subst (IsOfGrant e c) none edge in
           by_controller probed p ok pins h e v legal s st covers d o.0
@@ -94,7 +102,8 @@ module _ (probed : Probed) (p : Plan) (ok : IsAccepted p) (pins : List Pin) (h :
 
       phases : (new : Standings) → GrantFalls p version st c place new.phases → (t : ℕ) → place ≡ t → CoversGrants p (e ∷ h) new.phases
       phases new g zero none =
-          grant_covers version p ok pins h e v legal s q c place few is at st.phases covers.phases fall none (asked st.lines) (asked_now probed p ok pins h e v legal s st covers) new.phases (g.granted none)
+          grant_covers version p ok pins h e v legal s q c place few is at st.phases covers.phases fall none (asked st.lines) (asked_now probed p ok pins h e v legal s st covers) new.phases
+          (g.granted none)
       phases new g (suc t) own =
           let from : 0 < place = omega (arith, own) in
           pass_covers version p ok pins h e v legal s q c place few is at st.phases covers.phases fall from new.phases (g.passed from)
@@ -102,13 +111,15 @@ module _ (probed : Probed) (p : Plan) (ok : IsAccepted p) (pins : List Pin) (h :
   pub grant_rises : (val : Option Value) → v.fall ≡ false → Step probed p ok pins h e v legal s st covers (signal.Pin q) false val
   grant_rises val fall = record {
     by = λ d a. by_place d (subst (λ y. ControllerMakes p version st y false d.controller) m a.controller) (subst (λ y. BoardsMake p version st y false val d.boards) m a.boards) place refl;
-    covers = λ new b. rest false val fall new b (rise_covers version p ok pins h e v legal s q c place few is at st.phases covers.phases fall new.phases (subst (λ y. PhasesBehind p version st y false val new.phases) m b.phases));
+    covers = λ new b. rest false val fall new b (rise_covers version p ok pins h e v legal s q c place few is at st.phases covers.phases fall new.phases
+        (subst (λ y. PhasesBehind p version st y false val new.phases) m b.phases));
   }
     where
       able : can_rise p version c place st.phases ≡ true
       able = rise_able version p ok pins h e v legal s q c place few is at st.phases covers.phases fall
 
-      by_place : (d : Drivers) → ControllerMakes p version st (moved.Grant c place) false d.controller → BoardsMake p version st (moved.Grant c place) false val d.boards → (t : ℕ) → place ≡ t → Among d e.driver
+      by_place : (d : Drivers) → ControllerMakes p version st (moved.Grant c place) false d.controller → BoardsMake p version st (moved.Grant c place) false val d.boards → (t : ℕ) → place ≡ t
+          → Among d e.driver
       by_place d head boards zero none =
           let o = subst (IsOfGrant e c) none edge in
           by_controller probed p ok pins h e v legal s st covers d o.0

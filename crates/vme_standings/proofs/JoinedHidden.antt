@@ -130,7 +130,8 @@ module _ (p : Plan) (ok : IsAccepted p) (probed : Probed) (pins : List Pin) (old
       addressers = subst (CoversDrivers h wire.AddressStrobe) (sym moved.addressers) covers.addressers;
       answerers = subst (CoversDrivers h wire.Dtack) (sym moved.answerers) covers.answerers;
       fronts = fronts_covered old.shown (is_waited_for old) moved.fronts;
-      requests = hidden_requests p ok h moved.requests.low moved.requests.shared old.requests new.requests moved.requests.moves (lows covers.levels.shared) moved.requests.shared_are.all covers.requests;
+      requests = hidden_requests p ok h moved.requests.low moved.requests.shared old.requests new.requests moved.requests.moves
+          (lows covers.levels.shared) moved.requests.shared_are.all covers.requests;
     }
 
   -- and so does an edge that no probe sees, behind them
@@ -199,7 +200,8 @@ module _ (p : Plan) (ok : IsAccepted p) (probed : Probed) (pins : List Pin) (old
       under_way : HasHiddenFronts p pins h new.requests new.fronts
       under_way = fronts_hidden p ok h f.unseen f.passing old.fronts new.fronts f.moves pins n new.requests shows free passing
 
-    by_known : (k : Option Shown) → old.shown ≡ k → (w : Bool) → is_waited_for old ≡ w → FrontsHidden p probed (record old { requests = new.requests }) k w new.fronts → HasHiddenFronts p pins h new.requests new.fronts
+    by_known : (k : Option Shown) → old.shown ≡ k → (w : Bool) → is_waited_for old ≡ w → FrontsHidden p probed (record old { requests = new.requests }) k w new.fronts
+        → HasHiddenFronts p pins h new.requests new.fronts
     by_known (Some (known.Acknowledge n)) is true wait f = under_way n is wait f
     by_known (Some (known.Acknowledge n)) is false wait f = idle (λ m u. never (is_waited_for old) (waits m u) wait)
     by_known (Some (known.Access (Some t))) is w wait f = idle (λ m u. not_said m (Some (known.Access (Some t))) is refl u)
@@ -211,7 +213,8 @@ module _ (p : Plan) (ok : IsAccepted p) (probed : Probed) (pins : List Pin) (old
       levels = levels_stay p ok pins h e none new.lines new.low covers.levels;
       shown = shown_kept version p ok h e new.shown legal (λ is. strobe_is_seen version p ok pins h e legal none is) covers.shown;
       strobed = strobed_kept h e new.strobed (λ is. strobe_is_seen version p ok pins h e legal none is) (λ is. absurd (data_is_seen version p ok pins h e legal none is)) covers.strobed;
-      phases = unseen_phases version p ok pins h (asked old.lines) probed.segments.grants new.phases (asked_is p h old.lines are) (probed_grants p ok pins probed.segments probes) moved.phases.closed covers.phases e legal none;
+      phases = unseen_phases version p ok pins h (asked old.lines) probed.segments.grants new.phases (asked_is p h old.lines are)
+          (probed_grants p ok pins probed.segments probes) moved.phases.closed covers.phases e legal none;
       addressers = unseen_addressers version p ok pins h e legal new.addressers none covers.addressers;
       answerers = unseen_answerers version p ok pins h e legal new.answerers none covers.answerers;
       fronts = unseen_fronts version p ok pins h new.requests new.fronts covers.requests (by_known old.shown refl (is_waited_for old) refl moved.fronts) covers.fronts e legal none;

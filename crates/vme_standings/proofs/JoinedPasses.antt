@@ -69,7 +69,8 @@ acknowledge_known n (Some (known.Access (Some t))) e = absurd (cc)
 acknowledge_known n (Some (known.Access None)) e = absurd (cc)
 acknowledge_known n None e = absurd (cc)
 
-module _ (probed : Probed) (p : Plan) (ok : IsAccepted p) (pins : List Pin) (h : List Edge) (e : Edge) (v : Change) (legal : IsLegal probed.version p (e ∷ h)) (s : seen p pins h e ≡ Some v) (st : Standings) (covers : Covers p pins h st)
+module _ (probed : Probed) (p : Plan) (ok : IsAccepted p) (pins : List Pin) (h : List Edge) (e : Edge) (v : Change) (legal : IsLegal probed.version p (e ∷ h)) (s : seen p pins h e ≡ Some v)
+    (st : Standings) (covers : Covers p pins h st)
     (q : Pin) (place : ℕ) (is : v.signal ≡ signal.Pin q) (at : wire_of p q ≡ segment_at chain.Iack place) (m : moved_by p (signal.Pin q) ≡ moved.Acknowledge place) where
   abbrev version : Version
   version = probed.version
@@ -88,14 +89,19 @@ module _ (probed : Probed) (p : Plan) (ok : IsAccepted p) (pins : List Pin) (h :
       by_place zero o = a (sym o.1 ∙ same)
       by_place (suc t) o = b (sym o.1 ∙ same)
 
-  rest : (f : Bool) (val : Option Value) → v.fall ≡ f → (new : Standings) → IsBehind p probed st (record { signal = signal.Pin q; fall = f; value = val }) new → CoversFronts p (e ∷ h) new.fronts → CoversRequests p (e ∷ h) (may_be new.requests) → Covers p pins (e ∷ h) new
+  rest : (f : Bool) (val : Option Value) → v.fall ≡ f → (new : Standings) → IsBehind p probed st (record { signal = signal.Pin q; fall = f; value = val }) new → CoversFronts p (e ∷ h) new.fronts
+      → CoversRequests p (e ∷ h) (may_be new.requests) → Covers p pins (e ∷ h) new
   rest f val fall new b fronts requests = record {
     levels = levels_now probed p ok pins h e v legal s st covers (signal.Pin q) f val is fall new b;
     shown = kept_shown probed p ok pins h e v legal s st covers new.shown (subst (λ y. new.shown ≡ shown_behind y f val st.shown) m b.shown) (other wire.AddressStrobe (λ y. cc) (λ y. cc));
-    strobed = kept_strobed probed p ok pins h e v legal s st covers new.strobed (subst (λ y. new.strobed ≡ strobed_behind y f st.strobed) m b.strobed) (other wire.AddressStrobe (λ y. cc) (λ y. cc)) (λ y. absurd (other wire.DataStrobe (λ z. cc) (λ z. cc) y));
-    phases = kept_phases probed p ok pins h e v legal s st covers new.phases (subst (λ y. PhasesBehind p version st y f val new.phases) m b.phases) (λ n y. other (wire.Bg n) (λ z. cc) (λ z. cc) y) (other wire.BgOut (λ y. cc) (λ y. cc)) (other wire.Bbsy (λ y. cc) (λ y. cc));
-    addressers = kept_drivers probed p ok pins h e v legal s st covers wire.AddressStrobe new.addressers st.addressers (subst (λ y. AddressersBehind p st y f val new.addressers) m b.addressers) covers.addressers (other wire.AddressStrobe (λ y. cc) (λ y. cc));
-    answerers = kept_drivers probed p ok pins h e v legal s st covers wire.Dtack new.answerers st.answerers (subst (λ y. AnswerersBehind p st y f val new.answerers) m b.answerers) covers.answerers (other wire.Dtack (λ y. cc) (λ y. cc));
+    strobed = kept_strobed probed p ok pins h e v legal s st covers new.strobed (subst (λ y. new.strobed ≡ strobed_behind y f st.strobed) m b.strobed) (other wire.AddressStrobe (λ y. cc) (λ y. cc))
+        (λ y. absurd (other wire.DataStrobe (λ z. cc) (λ z. cc) y));
+    phases = kept_phases probed p ok pins h e v legal s st covers new.phases (subst (λ y. PhasesBehind p version st y f val new.phases) m b.phases) (λ n y. other (wire.Bg n) (λ z. cc) (λ z. cc) y)
+        (other wire.BgOut (λ y. cc) (λ y. cc)) (other wire.Bbsy (λ y. cc) (λ y. cc));
+    addressers = kept_drivers probed p ok pins h e v legal s st covers wire.AddressStrobe new.addressers st.addressers
+        (subst (λ y. AddressersBehind p st y f val new.addressers) m b.addressers) covers.addressers (other wire.AddressStrobe (λ y. cc) (λ y. cc));
+    answerers = kept_drivers probed p ok pins h e v legal s st covers wire.Dtack new.answerers st.answerers (subst (λ y. AnswerersBehind p st y f val new.answerers) m b.answerers) covers.answerers
+        (other wire.Dtack (λ y. cc) (λ y. cc));
     fronts = fronts;
     requests = requests;
   }
@@ -119,11 +125,13 @@ module _ (probed : Probed) (p : Plan) (ok : IsAccepted p) (pins : List Pin) (h :
       by = λ d a. by_place d (subst (λ y. ControllerMakes p version st y false d.controller) m a.controller) (subst (λ y. BoardsMake p version st y false val d.boards) m a.boards) place refl;
       covers = λ new b.
           rest false val fall new b
-          (kept_fronts probed p ok pins h e v legal s st covers new.fronts (subst (λ y. FrontsBehind p st y false val new.fronts) m b.fronts) (other wire.AddressStrobe (λ y. cc) (λ y. cc)) (λ y. rise) (λ y. rise))
+          (kept_fronts probed p ok pins h e v legal s st covers new.fronts (subst (λ y. FrontsBehind p st y false val new.fronts) m b.fronts) (other wire.AddressStrobe (λ y. cc) (λ y. cc)) (λ y. rise)
+          (λ y. rise))
           (requests_stay new.requests (subst (λ y. RequestsBehind p st y false val new.requests) m b.requests));
     }
       where
-        by_place : (d : Drivers) → ControllerMakes p version st (moved.Acknowledge place) false d.controller → BoardsMake p version st (moved.Acknowledge place) false val d.boards → (t : ℕ) → place ≡ t → Among d e.driver
+        by_place : (d : Drivers) → ControllerMakes p version st (moved.Acknowledge place) false d.controller → BoardsMake p version st (moved.Acknowledge place) false val d.boards → (t : ℕ)
+            → place ≡ t → Among d e.driver
         by_place d head boards zero none =
             let o = subst (λ t. IsOfSegment e (driver_at t)) none edge in
             by_controller probed p ok pins h e v legal s st covers d o.0 (head ∙ both (place == 0) (not (is_some st.shown)) (zero_test place none) nothing_shown)
@@ -192,7 +200,8 @@ module _ (probed : Probed) (p : Plan) (ok : IsAccepted p) (pins : List Pin) (h :
     not_zero : (a t : ℕ) → a ≡ suc t → (a == 0) ≡ false
     not_zero a t x = grind (arith, nat_tests)
 
-    by_place : (val : Option Value) (d : Drivers) → ControllerMakes p version st (moved.Acknowledge place) true d.controller → PassesShown p st place st.shown d.boards → (t : ℕ) → place ≡ t → Among d e.driver
+    by_place : (val : Option Value) (d : Drivers) → ControllerMakes p version st (moved.Acknowledge place) true d.controller → PassesShown p st place st.shown d.boards → (t : ℕ) → place ≡ t
+        → Among d e.driver
     by_place val d head boards zero none =
         let o = subst (λ t. IsOfSegment e (driver_at t)) none edge in
         by_controller probed p ok pins h e v legal s st covers d o.0

@@ -60,13 +60,16 @@ somebody d (Slot t) on = off (d.controller) (d.boards.bits == 0) (some_bit d.boa
     off : (a b : Bool) → not b ≡ true → (not a && b) ≡ false
     off a b f = grind arith
 
-module _ (probed : Probed) (p : Plan) (ok : IsAccepted p) (pins : List Pin) (h : List Edge) (e : Edge) (v : Change) (legal : IsLegal probed.version p (e ∷ h)) (s : seen p pins h e ≡ Some v) (st : Standings) (covers : Covers p pins h st) where
+module _ (probed : Probed) (p : Plan) (ok : IsAccepted p) (pins : List Pin) (h : List Edge) (e : Edge) (v : Change) (legal : IsLegal probed.version p (e ∷ h)) (s : seen p pins h e ≡ Some v)
+    (st : Standings) (covers : Covers p pins h st) where
   -- a segment of a chain
-  grant_step : (q : Pin) (c : ℕ) → c < 4 → v.signal ≡ signal.Pin q → wire_of p q ≡ grant_segment c (place_of_pin p ok q) → moved_by p (signal.Pin q) ≡ moved.Grant c (place_of_pin p ok q) → (f : Bool) (val : Option Value) → v.fall ≡ f → Step probed p ok pins h e v legal s st covers (signal.Pin q) f val
+  grant_step : (q : Pin) (c : ℕ) → c < 4 → v.signal ≡ signal.Pin q → wire_of p q ≡ grant_segment c (place_of_pin p ok q) → moved_by p (signal.Pin q) ≡ moved.Grant c (place_of_pin p ok q)
+      → (f : Bool) (val : Option Value) → v.fall ≡ f → Step probed p ok pins h e v legal s st covers (signal.Pin q) f val
   grant_step q c few is at m true val fall = grant_falls probed p ok pins h e v legal s st covers q c (place_of_pin p ok q) few is at m val fall
   grant_step q c few is at m false val fall = grant_rises probed p ok pins h e v legal s st covers q c (place_of_pin p ok q) few is at m val fall
 
-  pass_step : (q : Pin) → v.signal ≡ signal.Pin q → wire_of p q ≡ segment_at chain.Iack (place_of_pin p ok q) → moved_by p (signal.Pin q) ≡ moved.Acknowledge (place_of_pin p ok q) → (f : Bool) (val : Option Value) → v.fall ≡ f → Step probed p ok pins h e v legal s st covers (signal.Pin q) f val
+  pass_step : (q : Pin) → v.signal ≡ signal.Pin q → wire_of p q ≡ segment_at chain.Iack (place_of_pin p ok q) → moved_by p (signal.Pin q) ≡ moved.Acknowledge (place_of_pin p ok q)
+      → (f : Bool) (val : Option Value) → v.fall ≡ f → Step probed p ok pins h e v legal s st covers (signal.Pin q) f val
   pass_step q is at m true val fall = pass_falls probed p ok pins h e v legal s st covers q (place_of_pin p ok q) is at m fall val
   pass_step q is at m false val fall = pass_rises probed p ok pins h e v legal s st covers q (place_of_pin p ok q) is at m fall val
 

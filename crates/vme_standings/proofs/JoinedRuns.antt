@@ -75,7 +75,8 @@ clears version p (e ∷ h) legal low = by_edge e.driver e.wire e.fall e.value le
     by_edge (Slot s) wire.Bclr fall v l x before = before x
     by_edge d w fall v l x before = before x
 
-module _ (p : Plan) (ok : IsAccepted p) (probed : Probed) (pins : List Pin) (probes : AreProbed p pins probed.segments) (h : List Edge) (legal : IsLegal probed.version p h) (lines : Levels) (low : Segments) (are : AreLevels p pins h lines low) where
+module _ (p : Plan) (ok : IsAccepted p) (probed : Probed) (pins : List Pin) (probes : AreProbed p pins probed.segments) (h : List Edge) (legal : IsLegal probed.version p h) (lines : Levels)
+    (low : Segments) (are : AreLevels p pins h lines low) where
   abbrev version : Version
   version = probed.version
 
@@ -144,7 +145,8 @@ module _ (p : Plan) (ok : IsAccepted p) (probed : Probed) (pins : List Pin) (pro
       pulled : IsUndriven p lines (on_line.Br n) → ⊥
       pulled (few, on, nobody) =
           let f = some_row (pulls_request h n) (IsRowInRange p) p.rows (in_range p ok).rows (sym (are.shared (on_line.Br n) (few_is n few)) ∙ on) in
-          never (is_of_level p n f.0.slot) (ap (λ (o : Option Row). option_map_or (requests_on n) o false) f.2.alone ∙ and_left (requests_on n f.0) (drive h (Slot f.0.slot) wire.Br) f.1) (nobody f.0.slot)
+          never (is_of_level p n f.0.slot) (ap (λ (o : Option Row). option_map_or (requests_on n) o false) f.2.alone ∙ and_left (requests_on n f.0) (drive h (Slot f.0.slot) wire.Br) f.1)
+          (nobody f.0.slot)
   runs (Undriven (on_line.Irq n) u) = pulled u
     where
       level_is : (n : ℕ) → 0 < n → n < 8 → is_line (on_line.Irq n) ≡ true
@@ -153,7 +155,8 @@ module _ (p : Plan) (ok : IsAccepted p) (probed : Probed) (pins : List Pin) (pro
       pulled : IsUndriven p lines (on_line.Irq n) → ⊥
       pulled (from, few, on, nobody) =
           let f = some_row (pulls_interrupt h n) (IsRowInRange p) p.rows (in_range p ok).rows (sym (are.shared (on_line.Irq n) (level_is n from few)) ∙ on) in
-          never (is_on_level p n f.0.slot) (ap (λ (o : Option Row). option_map_or (interrupts_on n) o false) f.2.alone ∙ and_left (interrupts_on n f.0) (drive h (Slot f.0.slot) wire.Irq) f.1) (nobody f.0.slot)
+          never (is_on_level p n f.0.slot) (ap (λ (o : Option Row). option_map_or (interrupts_on n) o false) f.2.alone ∙ and_left (interrupts_on n f.0) (drive h (Slot f.0.slot) wire.Irq) f.1)
+          (nobody f.0.slot)
   runs (Undriven on_line.Bbsy u) = absurd u
   runs (Undriven on_line.AddressStrobe u) = absurd u
   runs (Undriven on_line.DataStrobe u) = absurd u
@@ -174,7 +177,8 @@ module _ (p : Plan) (ok : IsAccepted p) (probed : Probed) (pins : List Pin) (pro
     there s None found on = absurd (never (drive h (Slot s) wire.Dtack) on (sym (own_of_none version p h s wire.Dtack legal found)))
     there s (Some r) found on = refl
 
-    request_at : (s : ℕ) → is_interrupter p s ≡ true → (low : Bool) → drive h (Slot s) wire.Irq ≡ low → (served : Bool) → is_served p h (Slot s) ≡ served → may_be new.requests s (request_by low served) ≡ true
+    request_at : (s : ℕ) → is_interrupter p s ≡ true → (low : Bool) → drive h (Slot s) wire.Irq ≡ low → (served : Bool) → is_served p h (Slot s) ≡ served
+        → may_be new.requests s (request_by low served) ≡ true
     request_at s on true pulls false served =
         let i = interrupts p s on in
         known.requests.unknown.pending s ∙ known.requests.low_are s ∙ low_line_is p ok h lines are.shared i.interrupter.level s (on_level p s i) ∙ pulls_it p s i ok h pulls
@@ -184,7 +188,8 @@ module _ (p : Plan) (ok : IsAccepted p) (probed : Probed) (pins : List Pin) (pro
     request_at s on false off served x =
         let w = interrupter_in p ok s on in
         known.requests.unknown.high s w.from w.near
-        ∙ both (has known.requests.boards s) (not (has known.requests.low s && not (has known.requests.shared s))) (known.requests.boards_are s ∙ any_meant p s on) (by_line (has known.requests.low s) refl)
+        ∙ both (has known.requests.boards s) (not (has known.requests.low s && not (has known.requests.shared s))) (known.requests.boards_are s ∙ any_meant p s on)
+        (by_line (has known.requests.low s) refl)
       where
         out : (a b : Bool) → b ≡ true → not (a && not b) ≡ true
         out a b f = grind arith
@@ -209,7 +214,8 @@ module _ (p : Plan) (ok : IsAccepted p) (probed : Probed) (pins : List Pin) (pro
       phases = running_covers version p ok h legal (asked lines) (asked_is p h lines are.shared) probed.segments.grants low.grants shown new.phases
           (λ q on can. known.phases.all q on (subst (λ b. CanBegin p version (asked lines) b probed.segments.grants low.grants q) (sym busy_is) can));
       addressers = λ s on. absurd (no_strobe s on);
-      answerers = λ s on. known.answerers s ∙ both (is_line_left_low lines on_line.Dtack) (is_some (board p s)) (are.shared on_line.Dtack refl ∙ line_shows version p ok h legal s wire.Dtack on) (there s (board p s) refl on);
+      answerers = λ s on. known.answerers s ∙ both (is_line_left_low lines on_line.Dtack) (is_some (board p s)) (are.shared on_line.Dtack refl ∙ line_shows version p ok h legal s wire.Dtack on)
+          (there s (board p s) refl on);
       fronts = high_covers p h new.fronts strobe_high;
       requests = λ s on. request_at s on (drive h (Slot s) wire.Irq) refl (is_served p h (Slot s)) refl;
     }

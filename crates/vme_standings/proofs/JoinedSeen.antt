@@ -125,7 +125,8 @@ rise_moves version p ok h e legal w low high =
     let m = mover p h e w false (λ t. InSlot t × (drive h (Slot t) w ≡ true)) f.0.slot was (silent_on version p ok (e ∷ h) legal f.0.slot w high) (in_slot p ok f.0.slot f.0 f.2.alone, was) in
     is_by e (λ t. (is_same_driver e.driver (Slot t) ≡ true) × (drive h (Slot t) w ≡ true)) m.slot m.fact.0 m.driver (m.driver, m.fact.1)
 
-module _ (probed : Probed) (p : Plan) (ok : IsAccepted p) (pins : List Pin) (h : List Edge) (e : Edge) (v : Change) (legal : IsLegal probed.version p (e ∷ h)) (s : seen p pins h e ≡ Some v) (st : Standings) (covers : Covers p pins h st) where
+module _ (probed : Probed) (p : Plan) (ok : IsAccepted p) (pins : List Pin) (h : List Edge) (e : Edge) (v : Change) (legal : IsLegal probed.version p (e ∷ h)) (s : seen p pins h e ≡ Some v)
+    (st : Standings) (covers : Covers p pins h st) where
   abbrev version : Version
   version = probed.version
 
@@ -148,7 +149,8 @@ module _ (probed : Probed) (p : Plan) (ok : IsAccepted p) (pins : List Pin) (h :
   pub by_controller : (d : Drivers) → e.driver ≡ Controller → d.controller ≡ true → Among d e.driver
   by_controller d driver fact = subst (Among d) (sym driver) fact
 
-  pub levels_now : (x : Signal) (f : Bool) (val : Option Value) → v.signal ≡ x → v.fall ≡ f → (new : Standings) → IsBehind p probed st (record { signal = x; fall = f; value = val }) new → AreLevels p pins (e ∷ h) new.lines new.low
+  pub levels_now : (x : Signal) (f : Bool) (val : Option Value) → v.signal ≡ x → v.fall ≡ f → (new : Standings) → IsBehind p probed st (record { signal = x; fall = f; value = val }) new
+      → AreLevels p pins (e ∷ h) new.lines new.low
   levels_now x f val is fall new b =
       levels_behind p ok pins h e v s x is st.lines new.lines st.low new.low covers.levels
       (subst (λ g. LinesBehind x g st.lines new.lines) (sym fall) b.lines) (subst (λ g. LowBehind p x g st.low new.low) (sym fall) b.low)
@@ -178,8 +180,10 @@ module _ (probed : Probed) (p : Plan) (ok : IsAccepted p) (pins : List Pin) (h :
   request_wire : (n : ℕ) → v.signal ≡ signal.Line (on_line.Br n) → e.wire ≡ wire.Br
   request_wire n is = (of_request p e n (line_is p pins h e v s (on_line.Br n) is)).wire
 
-  request_rest : (n : ℕ) (f : Bool) (val : Option Value) → v.signal ≡ signal.Line (on_line.Br n) → v.fall ≡ f → (new : Standings) → IsBehind p probed st (record { signal = signal.Line (on_line.Br n); fall = f; value = val }) new
-      → new.shown ≡ st.shown → new.strobed ≡ st.strobed → CoversGrants p (e ∷ h) new.phases → new.addressers ≡ st.addressers → new.answerers ≡ st.answerers → new.fronts ≡ st.fronts → new.requests ≡ st.requests → Covers p pins (e ∷ h) new
+  request_rest : (n : ℕ) (f : Bool) (val : Option Value) → v.signal ≡ signal.Line (on_line.Br n) → v.fall ≡ f → (new : Standings)
+      → IsBehind p probed st (record { signal = signal.Line (on_line.Br n); fall = f; value = val }) new
+      → new.shown ≡ st.shown → new.strobed ≡ st.strobed → CoversGrants p (e ∷ h) new.phases → new.addressers ≡ st.addressers → new.answerers ≡ st.answerers → new.fronts ≡ st.fronts
+      → new.requests ≡ st.requests → Covers p pins (e ∷ h) new
   request_rest n f val is fall new b a1 a2 phases a4 a5 a6 a7 =
       let w = request_wire n is in
       record {
@@ -219,8 +223,10 @@ module _ (probed : Probed) (p : Plan) (ok : IsAccepted p) (pins : List Pin) (h :
       by_level true f = let l = irq_falls p ok pins h e v s n is f in (irq_fell p ok h e n l.0 l.1).wire
       by_level false f = let l = irq_rises p ok pins h e v s n is f in (irq_rose p ok h e n l.0 l.1).wire
 
-  irq_rest : (n : ℕ) (f : Bool) (val : Option Value) → v.signal ≡ signal.Line (on_line.Irq n) → v.fall ≡ f → (new : Standings) → IsBehind p probed st (record { signal = signal.Line (on_line.Irq n); fall = f; value = val }) new
-      → new.shown ≡ st.shown → new.strobed ≡ st.strobed → new.phases ≡ st.phases → new.addressers ≡ st.addressers → new.answerers ≡ st.answerers → new.fronts ≡ st.fronts → CoversRequests p (e ∷ h) (may_be new.requests) → Covers p pins (e ∷ h) new
+  irq_rest : (n : ℕ) (f : Bool) (val : Option Value) → v.signal ≡ signal.Line (on_line.Irq n) → v.fall ≡ f → (new : Standings)
+      → IsBehind p probed st (record { signal = signal.Line (on_line.Irq n); fall = f; value = val }) new
+      → new.shown ≡ st.shown → new.strobed ≡ st.strobed → new.phases ≡ st.phases → new.addressers ≡ st.addressers → new.answerers ≡ st.answerers → new.fronts ≡ st.fronts
+      → CoversRequests p (e ∷ h) (may_be new.requests) → Covers p pins (e ∷ h) new
   irq_rest n f val is fall new b a1 a2 a3 a4 a5 a6 requests =
       let w = irq_wire n is in
       record {
@@ -262,8 +268,10 @@ module _ (probed : Probed) (p : Plan) (ok : IsAccepted p) (pins : List Pin) (h :
   busy_wire : v.signal ≡ signal.Line on_line.Bbsy → e.wire ≡ wire.Bbsy
   busy_wire is = one_wire on_line.Bbsy wire.Bbsy e.wire (board_of p e.driver) refl refl (line_is p pins h e v s on_line.Bbsy is)
 
-  busy_rest : (f : Bool) (val : Option Value) → v.signal ≡ signal.Line on_line.Bbsy → v.fall ≡ f → (new : Standings) → IsBehind p probed st (record { signal = signal.Line on_line.Bbsy; fall = f; value = val }) new
-      → new.shown ≡ st.shown → new.strobed ≡ st.strobed → CoversGrants p (e ∷ h) new.phases → new.addressers ≡ st.addressers → new.answerers ≡ st.answerers → new.fronts ≡ st.fronts → new.requests ≡ st.requests → Covers p pins (e ∷ h) new
+  busy_rest : (f : Bool) (val : Option Value) → v.signal ≡ signal.Line on_line.Bbsy → v.fall ≡ f → (new : Standings)
+      → IsBehind p probed st (record { signal = signal.Line on_line.Bbsy; fall = f; value = val }) new
+      → new.shown ≡ st.shown → new.strobed ≡ st.strobed → CoversGrants p (e ∷ h) new.phases → new.addressers ≡ st.addressers → new.answerers ≡ st.answerers → new.fronts ≡ st.fronts
+      → new.requests ≡ st.requests → Covers p pins (e ∷ h) new
   busy_rest f val is fall new b a1 a2 phases a4 a5 a6 a7 =
       let w = busy_wire is in
       record {
@@ -305,7 +313,8 @@ module _ (probed : Probed) (p : Plan) (ok : IsAccepted p) (pins : List Pin) (h :
     data_wire = one_wire on_line.DataStrobe wire.DataStrobe e.wire (board_of p e.driver) refl refl (line_is p pins h e v s on_line.DataStrobe is)
 
     data_rest : (f : Bool) (val : Option Value) → v.fall ≡ f → (new : Standings) → IsBehind p probed st (record { signal = signal.Line on_line.DataStrobe; fall = f; value = val }) new
-        → new.shown ≡ st.shown → KnowsStrobed (e ∷ h) new.strobed → new.phases ≡ st.phases → new.addressers ≡ st.addressers → new.answerers ≡ st.answerers → new.fronts ≡ st.fronts → new.requests ≡ st.requests → Covers p pins (e ∷ h) new
+        → new.shown ≡ st.shown → KnowsStrobed (e ∷ h) new.strobed → new.phases ≡ st.phases → new.addressers ≡ st.addressers → new.answerers ≡ st.answerers → new.fronts ≡ st.fronts
+        → new.requests ≡ st.requests → Covers p pins (e ∷ h) new
     data_rest f val fall new b a1 strobed a3 a4 a5 a6 a7 =
         let w = data_wire in
         record {
@@ -344,11 +353,13 @@ module _ (probed : Probed) (p : Plan) (ok : IsAccepted p) (pins : List Pin) (h :
 
       strobed_now : KnowsStrobed (e ∷ h) true
       strobed_now t low =
-          let by = fall_by version p ok h e legal wire.DataStrobe (λ m. (is_fall_of (Slot m) wire.DataStrobe e ≡ true) × (drive h (Slot m) wire.AddressStrobe ≡ true)) data_falls_from.0 data_falls_from.1
+          let by = fall_by version p ok h e legal wire.DataStrobe (λ m. (is_fall_of (Slot m) wire.DataStrobe e ≡ true)
+          × (drive h (Slot m) wire.AddressStrobe ≡ true)) data_falls_from.0 data_falls_from.1
           (λ m driver w f.
           let rule = (passed_as version p h e m wire.DataStrobe true legal driver w f).rule in
           (is_fall m driver w f, and_left (drive h (Slot m) wire.AddressStrobe) (drive h (Slot m) wire.Addr) (and_left _ _ (and_left _ _ (and_left _ _ rule))))) in
-          let was : drive h (Slot t) wire.AddressStrobe ≡ true = sym (drive_stays h e (Slot t) wire.AddressStrobe (λ y. absurd (cc (data_wire, same_wire e.wire wire.AddressStrobe (and_left (is_same_wire e.wire wire.AddressStrobe) (is_same_driver e.driver (Slot t)) y))))) ∙ low in
+          let was : drive h (Slot t) wire.AddressStrobe ≡ true = sym (drive_stays h e (Slot t) wire.AddressStrobe
+          (λ y. absurd (cc (data_wire, same_wire e.wire wire.AddressStrobe (and_left (is_same_wire e.wire wire.AddressStrobe) (is_same_driver e.driver (Slot t)) y))))) ∙ low in
           let one = strobe_alone p h (goes version p ok h legal.1) by.slot t by.fact.1 was in
           sym (subst (λ x. has_strobed (e ∷ h) (Slot x) ≡ true) one
           (now (is_fall_of (Slot by.slot) wire.AddressStrobe e) (is_fall_of (Slot by.slot) wire.DataStrobe e) (has_strobed h (Slot by.slot)) (other by.slot) by.fact.0))
@@ -408,14 +419,16 @@ module _ (probed : Probed) (p : Plan) (ok : IsAccepted p) (pins : List Pin) (h :
     now old q f = has_phase old q && are_alike (is_clear_due p (asked st.lines) q) f
 
     clear_rest : (f : Bool) (val : Option Value) → v.fall ≡ f → (new : Standings) → IsBehind p probed st (record { signal = signal.Line on_line.Bclr; fall = f; value = val }) new
-        → new.shown ≡ st.shown → new.strobed ≡ st.strobed → HasExactly new.phases (λ q. now st.phases q f) → new.addressers ≡ st.addressers → new.answerers ≡ st.answerers → new.fronts ≡ st.fronts → new.requests ≡ st.requests → Covers p pins (e ∷ h) new
+        → new.shown ≡ st.shown → new.strobed ≡ st.strobed → HasExactly new.phases (λ q. now st.phases q f) → new.addressers ≡ st.addressers → new.answerers ≡ st.answerers → new.fronts ≡ st.fronts
+        → new.requests ≡ st.requests → Covers p pins (e ∷ h) new
     clear_rest f val fall new b a1 a2 exact a4 a5 a6 a7 =
         let w = clear_wire in
         record {
           levels = levels_now (signal.Line on_line.Bclr) f val is fall new b;
           shown = kept_shown new.shown a1 (λ y. absurd (cc (w, y)));
           strobed = kept_strobed new.strobed a2 (λ y. absurd (cc (w, y))) (λ y. absurd (cc (w, y)));
-          phases = cleared_covers version p ok pins h e v legal s st.phases covers.phases is (asked st.lines) asked_now new.phases (subst (λ g. HasExactly new.phases (λ q. now st.phases q g)) (sym fall) exact);
+          phases = cleared_covers version p ok pins h e v legal s st.phases covers.phases is (asked st.lines) asked_now new.phases
+              (subst (λ g. HasExactly new.phases (λ q. now st.phases q g)) (sym fall) exact);
           addressers = kept_drivers wire.AddressStrobe new.addressers st.addressers a4 covers.addressers (λ y. absurd (cc (w, y)));
           answerers = kept_drivers wire.Dtack new.answerers st.answerers a5 covers.answerers (λ y. absurd (cc (w, y)));
           fronts = kept_fronts new.fronts a6 (λ y. absurd (cc (w, y))) (λ y. absurd (cc (w, y))) (λ y. absurd (cc (w, y)));
@@ -452,7 +465,8 @@ module _ (probed : Probed) (p : Plan) (ok : IsAccepted p) (pins : List Pin) (h :
     strobe_levels = rose version p ok h e legal wire.AddressStrobe (differs p ok pins h e v s (signal.Line on_line.AddressStrobe) is) (way p ok pins h e v s false fall)
 
     -- the cycle is over
-    over : Going p h → (t : ℕ) → drive h (Slot t) wire.AddressStrobe ≡ true → drive h (Slot t) wire.Addr ≡ false → (has_strobed h (Slot t) ≡ true) × ((u : ℕ) → drive h (Slot u) wire.DataStrobe ≡ false)
+    over : Going p h → (t : ℕ) → drive h (Slot t) wire.AddressStrobe ≡ true → drive h (Slot t) wire.Addr ≡ false → (has_strobed h (Slot t) ≡ true)
+        × ((u : ℕ) → drive h (Slot u) wire.DataStrobe ≡ false)
     over (Quiet, i) t on off = absurd (never (drive h (Slot t) wire.AddressStrobe) on (i.strobe_high t))
     over (Fresh m, i) t on off = absurd (never (drive h (Slot m) wire.Addr) i.group_on (subst (λ x. drive h (Slot x) wire.Addr ≡ false) (i.opened.strobe_only t on) off))
     over (Asking m g hi, i) t on off = absurd (never (drive h (Slot m) wire.Addr) i.group_on (subst (λ x. drive h (Slot x) wire.Addr ≡ false) (i.opened.strobe_only t on) off))
@@ -469,7 +483,8 @@ module _ (probed : Probed) (p : Plan) (ok : IsAccepted p) (pins : List Pin) (h :
           near = by.near;
           driver = by.driver;
           fact = able st.strobed (is_left_low st on_line.DataStrobe) (has st.addressers by.slot) (covers.strobed by.slot by.fact.1 ∙ o.0)
-              (covers.levels.shared on_line.DataStrobe refl ∙ is_false (line p h wire.DataStrobe) (λ low. let t = driven_by version p ok h wire.DataStrobe low in never (drive h (Slot t.0) wire.DataStrobe) t.1 (o.1 t.0)))
+              (covers.levels.shared on_line.DataStrobe refl ∙ is_false (line p h wire.DataStrobe)
+              (λ low. let t = driven_by version p ok h wire.DataStrobe low in never (drive h (Slot t.0) wire.DataStrobe) t.1 (o.1 t.0)))
               (covers.addressers by.slot by.fact.1);
         }
       where
@@ -548,7 +563,8 @@ module _ (probed : Probed) (p : Plan) (ok : IsAccepted p) (pins : List Pin) (h :
     error_now = error_is version p ok pins h e v legal s is
 
     pub error_rest : (f : Bool) (val : Option Value) → v.fall ≡ f → (new : Standings) → IsBehind p probed st (record { signal = signal.Line on_line.Berr; fall = f; value = val }) new
-        → new.shown ≡ st.shown → new.strobed ≡ st.strobed → new.phases ≡ st.phases → new.addressers ≡ st.addressers → new.answerers ≡ st.answerers → CoversFronts p (e ∷ h) new.fronts → new.requests ≡ st.requests → Covers p pins (e ∷ h) new
+        → new.shown ≡ st.shown → new.strobed ≡ st.strobed → new.phases ≡ st.phases → new.addressers ≡ st.addressers → new.answerers ≡ st.answerers → CoversFronts p (e ∷ h) new.fronts
+        → new.requests ≡ st.requests → Covers p pins (e ∷ h) new
     error_rest f val fall new b a1 a2 a3 a4 a5 fronts a7 =
         let w = error_now.1 in
         record {

@@ -304,7 +304,8 @@ module _ (p : Plan) (ok : IsAccepted p) where
                       (subst (λ k. is_same_chain c k ≡ true) ch (self_chain c)) (subst (λ k. (t == k) ≡ true) pl (self t))) x
 
         -- all levels
-        pub levels_behind : (x : Signal) → v.signal ≡ x → (lines newlines : Levels) (low newlow : Segments) → AreLevels p pins h lines low → LinesBehind x v.fall lines newlines → LowBehind p x v.fall low newlow
+        pub levels_behind : (x : Signal) → v.signal ≡ x → (lines newlines : Levels) (low newlow : Segments) → AreLevels p pins h lines low → LinesBehind x v.fall lines newlines
+            → LowBehind p x v.fall low newlow
             → AreLevels p pins (e ∷ h) newlines newlow
         levels_behind (signal.Line l) is lines newlines low newlow old a b = record {
           shared = λ k on. by_test k on (is_same_line l k) refl;

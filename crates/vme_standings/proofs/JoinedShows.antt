@@ -43,7 +43,8 @@ module _ (version : Version) (p : Plan) (ok : IsAccepted p) where
       by_value v (showing version p h t b.row true v ok legal.1 legal.0 (stands p t b.row ok b.found) d).shown d.value
       (and_right _ (holds (show_guard (readings p h (Slot t)) v)) (all_passed version p h (Slot t) wire.Addr true v legal.0).rule) b.row b.found
     where
-      by_value : (o : Option Cycle) → shown p (at t wire.Addr true v ∷ h) ≡ o → has_value wire.Addr true o ≡ true → holds (show_guard (readings p h (Slot t)) o) ≡ true → (r : Row) → board p t ≡ Some r → Shows p (at t wire.Addr true v ∷ h) t
+      by_value : (o : Option Cycle) → shown p (at t wire.Addr true v ∷ h) ≡ o → has_value wire.Addr true o ≡ true → holds (show_guard (readings p h (Slot t)) o) ≡ true → (r : Row) → board p t ≡ Some r
+          → Shows p (at t wire.Addr true v ∷ h) t
       by_value None is has rule r found = absurd (cc)
       by_value (Some (cycle.Acknowledge n)) is has rule r found = record {
         cycle = cycle.Acknowledge n;

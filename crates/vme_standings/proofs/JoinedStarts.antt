@@ -90,7 +90,8 @@ may_of p (Some value.Access) c t e may = refl
 may_of p (Some (value.Status b)) c t e may = absurd (cc)
 may_of p None c t e may = absurd (cc)
 
-module _ (probed : Probed) (p : Plan) (ok : IsAccepted p) (pins : List Pin) (h : List Edge) (e : Edge) (v : Change) (legal : IsLegal probed.version p (e ∷ h)) (s : seen p pins h e ≡ Some v) (st : Standings) (covers : Covers p pins h st)
+module _ (probed : Probed) (p : Plan) (ok : IsAccepted p) (pins : List Pin) (h : List Edge) (e : Edge) (v : Change) (legal : IsLegal probed.version p (e ∷ h)) (s : seen p pins h e ≡ Some v)
+    (st : Standings) (covers : Covers p pins h st)
     (is : v.signal ≡ signal.Line on_line.AddressStrobe) (fall : v.fall ≡ true) (val : Option Value) (agree : are_values_of val v.value ≡ true) where
   abbrev version : Version
   version = probed.version

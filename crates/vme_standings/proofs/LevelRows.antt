@@ -12,7 +12,8 @@ use Rattle.vme_standings.specs.Cuts.{ChangesLevel}
 use Rattle.vme_standings.specs.Phases.{expired_row, granting_row, is_idle_at}
 
 -- what holds of the rows that are put in and of those that stay holds of the rows of each level
-pub each_level : (k : ℕ) (is_idle : Bool) (lasts firsts : SlotSet) (old new : GrantPhases) → ChangesLevel k is_idle lasts firsts old new → (P : ℕ → Bool → SlotSet → SlotSet → Type 0) → P k is_idle lasts firsts
+pub each_level : (k : ℕ) (is_idle : Bool) (lasts firsts : SlotSet) (old new : GrantPhases) → ChangesLevel k is_idle lasts firsts old new → (P : ℕ → Bool → SlotSet → SlotSet → Type 0)
+    → P k is_idle lasts firsts
     → ((c : ℕ) → c < k → P c (is_idle_at old c) (granting_row old c) (expired_row old c))
     → (c : ℕ) → c < k + 1 → P c (is_idle_at new c) (granting_row new c) (expired_row new c)
 each_level k is_idle lasts firsts old new change P here there c l = by_place (c == k) refl

@@ -40,6 +40,8 @@ pub mod FrontLaws
 pub mod FrontSeen
 -- what covers a part of a bus covers it in a union: `union_laws`
 pub mod UnionLaws
+-- what covers the whole bus covers it in a union: `union_laws`
+pub mod UnionCovers
 -- the segments of a grant chain, by their order: `grant_laws`
 pub mod GrantPlaces
 -- how an edge leads from one phase of the grants and BBSY* to the next: `grant_laws`

@@ -98,13 +98,15 @@ behind_held : (on : Bool) (first y b : ℕ) → (on && (nat_le first y && nat_lt
 behind_held on first y b e member from = grind (arith, nat_tests)
 
 -- how the test of a run changes with the segment that an edge moves
-falls_next : (n m t x y : ℕ) (seg l : Bool) → l ≡ (seg && (m == n && nat_le t y)) → seg ≡ true → y < x → (n ≡ m → t < x → t ≤ y) → (if (n == m && t == x) then true else l) ≡ (seg && (m == n && nat_le t x))
+falls_next : (n m t x y : ℕ) (seg l : Bool) → l ≡ (seg && (m == n && nat_le t y)) → seg ≡ true → y < x → (n ≡ m → t < x → t ≤ y)
+    → (if (n == m && t == x) then true else l) ≡ (seg && (m == n && nat_le t x))
 falls_next n m t x y seg l e s less up = grind (arith, nat_tests, up)
 
 falls_first : (n m t : ℕ) (seg l : Bool) → l ≡ (seg && false) → seg ≡ true → (if (n == m && t == 0) then true else l) ≡ (seg && (m == n && nat_le t 0))
 falls_first n m t seg l e s = grind (arith, nat_tests)
 
-takes_next : (n m t x y : ℕ) (seg on : Bool) → (on ≡ true → m ≡ n) → (m ≡ n → on ≡ true) → y < x → (m ≡ n → t < x → t ≤ y) → (seg && (m == n && nat_le t y)) ≡ (seg && (on && (nat_le 0 t && nat_lt t x)))
+takes_next : (n m t x y : ℕ) (seg on : Bool) → (on ≡ true → m ≡ n) → (m ≡ n → on ≡ true) → y < x → (m ≡ n → t < x → t ≤ y)
+    → (seg && (m == n && nat_le t y)) ≡ (seg && (on && (nat_le 0 t && nat_lt t x)))
 takes_next n m t x y seg on to from less up = by_chain (m == n) refl on refl
   where
     by_chain : (a : Bool) → (m == n) ≡ a → (b : Bool) → on ≡ b → (seg && (a && nat_le t y)) ≡ (seg && (b && (nat_le 0 t && nat_lt t x)))
@@ -116,14 +118,16 @@ takes_next n m t x y seg on to from less up = by_chain (m == n) refl on refl
 empty_run : (seg on : Bool) (t b : ℕ) → (seg && (on && (nat_le b t && nat_lt t b))) ≡ (seg && false)
 empty_run seg on t b = grind (arith, nat_tests)
 
-rises_held : (n m t x f b : ℕ) (seg on l : Bool) → l ≡ (seg && (on && (nat_le x t && nat_lt t b))) → seg ≡ true → (on ≡ true → m ≡ n) → x < f → (m ≡ n → t < f → t ≤ x) → (if (n == m && t == x) then false else l) ≡ (seg && (on && (nat_le f t && nat_lt t b)))
+rises_held : (n m t x f b : ℕ) (seg on l : Bool) → l ≡ (seg && (on && (nat_le x t && nat_lt t b))) → seg ≡ true → (on ≡ true → m ≡ n) → x < f → (m ≡ n → t < f → t ≤ x)
+    → (if (n == m && t == x) then false else l) ≡ (seg && (on && (nat_le f t && nat_lt t b)))
 rises_held n m t x f b seg on l e s to less up = by_chain on refl
   where
     by_chain : (a : Bool) → on ≡ a → (if (n == m && t == x) then false else l) ≡ (seg && (a && (nat_le f t && nat_lt t b)))
     by_chain true is = let same : m ≡ n = to is in grind (arith, nat_tests, up same)
     by_chain false is = grind (arith, nat_tests)
 
-rises_expired : (n m t x f : ℕ) (seg l : Bool) → l ≡ (seg && (m == n && nat_le x t)) → seg ≡ true → x < f → (m ≡ n → t < f → t ≤ x) → (if (n == m && t == x) then false else l) ≡ (seg && (m == n && nat_le f t))
+rises_expired : (n m t x f : ℕ) (seg l : Bool) → l ≡ (seg && (m == n && nat_le x t)) → seg ≡ true → x < f → (m ≡ n → t < f → t ≤ x)
+    → (if (n == m && t == x) then false else l) ≡ (seg && (m == n && nat_le f t))
 rises_expired n m t x f seg l e s less up = by_chain (m == n) refl
   where
     by_chain : (a : Bool) → (m == n) ≡ a → (if (n == m && t == x) then false else l) ≡ (seg && (a && nat_le f t))
@@ -137,7 +141,8 @@ rises_last n m t x seg l e up = by_chain (m == n) refl
     by_chain true is = let same : m ≡ n = same_number m n is in grind (arith, nat_tests, up same)
     by_chain false is = grind (arith, nat_tests)
 
-expires_next : (n m t f last : ℕ) (seg l : Bool) → l ≡ (seg && (m == n && nat_le t last)) → seg ≡ true → 0 < f → (m ≡ n → t ≤ last) → (m ≡ n → t < f → t ≤ 0) → (if (n == m && t == 0) then false else l) ≡ (seg && (m == n && nat_le f t))
+expires_next : (n m t f last : ℕ) (seg l : Bool) → l ≡ (seg && (m == n && nat_le t last)) → seg ≡ true → 0 < f → (m ≡ n → t ≤ last) → (m ≡ n → t < f → t ≤ 0)
+    → (if (n == m && t == 0) then false else l) ≡ (seg && (m == n && nat_le f t))
 expires_next n m t f last seg l e s less to up = by_chain (m == n) refl
   where
     by_chain : (a : Bool) → (m == n) ≡ a → (if (n == m && t == 0) then false else l) ≡ (seg && (a && nat_le f t))
@@ -151,7 +156,8 @@ expires_last n m t seg l e = grind (arith, nat_tests)
 pub record Moves (p : Plan) (h : List Edge) (e : Edge) (m x : ℕ) (fall : Bool) : Type 0 where
   pub low : (n t : ℕ) → is_segment p n t ≡ true → is_place_low (e ∷ h) n t ≡ (if (n == m && t == x) then fall else is_place_low h n t)
 
-low_same : (h : List Edge) (e : Edge) (c t : ℕ) → drive (e ∷ h) Controller (Bg c) ≡ drive h Controller (Bg c) → ((s : ℕ) → drive (e ∷ h) (Slot s) BgOut ≡ drive h (Slot s) BgOut) → is_place_low (e ∷ h) c t ≡ is_place_low h c t
+low_same : (h : List Edge) (e : Edge) (c t : ℕ) → drive (e ∷ h) Controller (Bg c) ≡ drive h Controller (Bg c) → ((s : ℕ) → drive (e ∷ h) (Slot s) BgOut ≡ drive h (Slot s) BgOut)
+    → is_place_low (e ∷ h) c t ≡ is_place_low h c t
 low_same h e c zero a b = a
 low_same h e c (suc t) a b = b (suc t)
 
@@ -397,7 +403,8 @@ module _ (p : Plan) (ok : IsAccepted p) where
         omega (arith, a.1, to)
 
     -- behind the rise of a segment
-    module _ (e : Edge) (m x : ℕ) (few : m < 4) (moves : Moves p h e m x false) (same : last_granted (e ∷ h) ≡ last_granted h) (busy : (s : ℕ) → drive (e ∷ h) (Slot s) Bbsy ≡ drive h (Slot s) Bbsy) where
+    module _ (e : Edge) (m x : ℕ) (few : m < 4) (moves : Moves p h e m x false) (same : last_granted (e ∷ h) ≡ last_granted h)
+        (busy : (s : ℕ) → drive (e ∷ h) (Slot s) Bbsy ≡ drive h (Slot s) Bbsy) where
       gap : (f n t : ℕ) → is_follower p m x f ≡ true → is_segment p n t ≡ true → m ≡ n → t < f → t ≤ x
       gap f n t follows seg is l = (follower_before p ok m few x f follows).greatest t (subst (λ k. is_segment p k t ≡ true) (sym is) seg) l
 

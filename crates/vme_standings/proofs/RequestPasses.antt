@@ -135,7 +135,8 @@ module _ (version : Version) (p : Plan) (h : List Edge) (e : Edge) (s n : ℕ) (
           let f = some_row (pulls_interrupt h n) (IsRowInRange p) p.rows (in_range p ok).rows line in
           let there : is_on_level p n f.0.slot ≡ true = ap (λ (o : Option Row). option_map_or (interrupts_on n) o false) f.2.alone ∙ and_left (interrupts_on n f.0) (drive h (Slot f.0.slot) Irq) f.1 in
           let some = interrupts_there p n f.0.slot there in
-          let q : request_of p h f.0.slot ≡ request_by true (is_served p h (Slot f.0.slot)) = ap (λ b. request_by b (is_served p h (Slot f.0.slot))) (and_right (interrupts_on n f.0) (drive h (Slot f.0.slot) Irq) f.1) in
+          let q : request_of p h f.0.slot ≡ request_by true (is_served p h (Slot f.0.slot)) = ap (λ b. request_by b (is_served p h (Slot f.0.slot)))
+          (and_right (interrupts_on n f.0) (drive h (Slot f.0.slot) Irq) f.1) in
           never (pulls_without s old boards f.0.slot)
           (by_request f.0.slot there (is_served p h (Slot f.0.slot)) q (covers f.0.slot some))
           (none f.0.slot (interrupter_in p ok f.0.slot some).near)

@@ -142,7 +142,8 @@ dtack_rose p ok h e low high =
     mover p h e Dtack false Anybody f.0.slot f.1 (silent_dtack p ok (e ∷ h) f.0 f.2.alone high) tt
 
 -- the edge passed its tests, as that of this board
-pub passed_as : (version : Version) (p : Plan) (h : List Edge) (e : Edge) (s : ℕ) (w : Wire) (fall : Bool) → IsLegal version p (e ∷ h) → is_same_driver e.driver (Slot s) ≡ true → e.wire ≡ w → e.fall ≡ fall
+pub passed_as : (version : Version) (p : Plan) (h : List Edge) (e : Edge) (s : ℕ) (w : Wire) (fall : Bool) → IsLegal version p (e ∷ h) → is_same_driver e.driver (Slot s) ≡ true → e.wire ≡ w
+    → e.fall ≡ fall
     → Passed version p h (Slot s) w fall e.value
 passed_as version p h e s w fall legal driver wire way =
     subst (λ f. Passed version p h (Slot s) w f e.value) way
@@ -230,7 +231,8 @@ module _ (p : Plan) (h : List Edge) (e : Edge) (old new : ℕ → Request → Bo
         (covers t some)
 
 -- what an answer leaves of a request: that of the driver, and of another board
-pub answer_serves : (old new : Request → Bool) (serves : Bool) → (old High ≡ true → new High ≡ true) → (serves ≡ false → old Pending ≡ true → new Pending ≡ true) → (serves ≡ true → old Pending ≡ true → new Served ≡ true)
+pub answer_serves : (old new : Request → Bool) (serves : Bool) → (old High ≡ true → new High ≡ true) → (serves ≡ false → old Pending ≡ true → new Pending ≡ true)
+    → (serves ≡ true → old Pending ≡ true → new Served ≡ true)
     → (old Served ≡ true → new Served ≡ true) → (q : Request) → old q ≡ true → new (step Dtack true serves q) ≡ true
 answer_serves old new true a b c d High is = a is
 answer_serves old new true a b c d Pending is = c refl is
@@ -258,14 +260,16 @@ module _ (p : Plan) (h : List Edge) (e : Edge) (old new : ℕ → Request → Bo
       by_driver false is = ap (new t) (of_other p h e old new covers t some is) ∙ others t some is (request_of p h t) (covers t some)
 
   -- an access is answered by the board in the slot that is shown
-  pub accessed_slot : (version : Version) → IsLegal version p (e ∷ h) → (s x : ℕ) → is_same_driver e.driver (Slot s) ≡ true → shown p h ≡ Some (Access x) → option_map_or (λ b. b.slot == x) (board p s) false ≡ true
+  pub accessed_slot : (version : Version) → IsLegal version p (e ∷ h) → (s x : ℕ) → is_same_driver e.driver (Slot s) ≡ true → shown p h ≡ Some (Access x)
+      → option_map_or (λ b. b.slot == x) (board p s) false ≡ true
   accessed_slot version legal s x driver shows =
       let passed = passed_as version p h e s Dtack true legal driver answer.wire answer.way in
       subst (λ v. holds (answer_guard (readings p h (Slot s)) v) ≡ true) shows
       (and_right _ (holds (answer_guard (readings p h (Slot s)) (shown p h))) passed.rule)
 
   -- an acknowledge is answered by a board that is pending at its level
-  pub acknowledged_pending : (version : Version) → IsLegal version p (e ∷ h) → (s n : ℕ) → is_same_driver e.driver (Slot s) ≡ true → shown p h ≡ Some (Acknowledge n) → is_pending (readings p h (Slot s)) n ≡ true
+  pub acknowledged_pending : (version : Version) → IsLegal version p (e ∷ h) → (s n : ℕ) → is_same_driver e.driver (Slot s) ≡ true → shown p h ≡ Some (Acknowledge n)
+      → is_pending (readings p h (Slot s)) n ≡ true
   acknowledged_pending version legal s n driver shows =
       let passed = passed_as version p h e s Dtack true legal driver answer.wire answer.way in
       and_right _ (is_pending (readings p h (Slot s)) n)

@@ -23,7 +23,8 @@ free_kept k firsts old new test change free = record {
 abbrev pub AreMade : GrantPhases → ℕ → (ℕ → ℕ → Bool) → Type 0
 AreMade s k test = (b t : ℕ) → b < k → t < 32 → has (held_row s b) t ≡ test b t
 
-pub held_step : (k : ℕ) (firsts : SlotSet) (old new : GrantPhases) (test : ℕ → ℕ → Bool) → ChangesHeld k firsts old new → AreMade old k test → ((t : ℕ) → t < 32 → has firsts t ≡ test k t) → AreMade new (k + 1) test
+pub held_step : (k : ℕ) (firsts : SlotSet) (old new : GrantPhases) (test : ℕ → ℕ → Bool) → ChangesHeld k firsts old new → AreMade old k test → ((t : ℕ) → t < 32 → has firsts t ≡ test k t)
+    → AreMade new (k + 1) test
 held_step k firsts old new test change made here b t l m = by_place (b == k) refl
   where
     by_place : (x : Bool) → (b == k) ≡ x → has (held_row new b) t ≡ test b t
@@ -34,7 +35,8 @@ held_step k firsts old new test change made here b t l m = by_place (b == k) ref
         ap (λ r. has r t) (change.held b) ∙ ap (λ x. has (if x then firsts else held_row old b) t) at ∙ made b t near m
 
 -- what holds of the row that is put in and of those that stay holds of each row
-pub each_row : (k : ℕ) (firsts : SlotSet) (old new : GrantPhases) → ChangesHeld k firsts old new → (P : ℕ → SlotSet → Type 0) → P k firsts → ((b : ℕ) → (b == k) ≡ false → P b (held_row old b)) → (b : ℕ) → P b (held_row new b)
+pub each_row : (k : ℕ) (firsts : SlotSet) (old new : GrantPhases) → ChangesHeld k firsts old new → (P : ℕ → SlotSet → Type 0) → P k firsts → ((b : ℕ) → (b == k) ≡ false → P b (held_row old b))
+    → (b : ℕ) → P b (held_row new b)
 each_row k firsts old new change P here there b = by_place (b == k) refl
   where
     by_place : (x : Bool) → (b == k) ≡ x → P b (held_row new b)
@@ -53,7 +55,8 @@ not_by test (Granting c t) e = refl
 not_by test (Held b t) e = absurd (cc)
 not_by test (Expired c t) e = refl
 
-pub idle_step : (k : ℕ) (may_be : Bool) (old new : GrantPhases) (test : ℕ → Bool) → ChangesIdle k may_be old new → ((c : ℕ) → c < k → is_idle_at old c ≡ test c) → may_be ≡ test k → (c : ℕ) → c < k + 1 → is_idle_at new c ≡ test c
+pub idle_step : (k : ℕ) (may_be : Bool) (old new : GrantPhases) (test : ℕ → Bool) → ChangesIdle k may_be old new → ((c : ℕ) → c < k → is_idle_at old c ≡ test c) → may_be ≡ test k → (c : ℕ) → c < k + 1
+    → is_idle_at new c ≡ test c
 idle_step k may_be old new test change made here c l = by_place (c == k) refl
   where
     by_place : (x : Bool) → (c == k) ≡ x → is_idle_at new c ≡ test c
@@ -75,7 +78,8 @@ last true = refl
 last false = refl
 
 -- a row of a level alone
-pub granting_only : (c : ℕ) (row : SlotSet) (f : ℕ → Bool) (old new : GrantPhases) (b : Bool) → ChangesGranting c row old new → HasExactly old (λ q. false) → ((t : ℕ) → has row t ≡ f t) → b ≡ true → (n t : ℕ) → n < 4 → t < 32 → has (granting_row new n) t ≡ (n == c && f t && b)
+pub granting_only : (c : ℕ) (row : SlotSet) (f : ℕ → Bool) (old new : GrantPhases) (b : Bool) → ChangesGranting c row old new → HasExactly old (λ q. false) → ((t : ℕ) → has row t ≡ f t) → b ≡ true
+    → (n t : ℕ) → n < 4 → t < 32 → has (granting_row new n) t ≡ (n == c && f t && b)
 granting_only c row f old new b change none is so n t l m = by_place (n == c) refl
   where
     by_place : (x : Bool) → (n == c) ≡ x → has (granting_row new n) t ≡ (n == c && f t && b)
@@ -85,14 +89,16 @@ granting_only c row f old new b change none is so n t l m = by_place (n == c) re
         ap (λ r. has r t) (change.granting n) ∙ ap (λ x. has (if x then row else granting_row old n) t) at ∙ none.granting n t l m ∙ ap (λ x. x && f t && b) (sym at)
 
 -- a set to which a row of a grant under way was added
-pub granting_added : (c : ℕ) (row : SlotSet) (old new : GrantPhases) → ChangesGranting c row old new → HasExactly old (λ q. false) → ((n : ℕ) → n < 4 → is_idle_at new n ≡ false) × ((b t : ℕ) → b < 22 → t < 32 → has (held_row new b) t ≡ false) × ((n t : ℕ) → n < 4 → t < 32 → has (expired_row new n) t ≡ false)
+pub granting_added : (c : ℕ) (row : SlotSet) (old new : GrantPhases) → ChangesGranting c row old new → HasExactly old (λ q. false) → ((n : ℕ) → n < 4 → is_idle_at new n ≡ false)
+    × ((b t : ℕ) → b < 22 → t < 32 → has (held_row new b) t ≡ false) × ((n t : ℕ) → n < 4 → t < 32 → has (expired_row new n) t ≡ false)
 granting_added c row old new change none = (
   λ n l. ap (λ xs. slice_index_or xs n false) change.idle ∙ none.idle n l,
   λ b t l m. ap (λ xs. has (slice_index_or xs b no_slots) t) change.held ∙ none.held b t l m,
   λ n t l m. ap (λ xs. has (slice_index_or xs n no_slots) t) change.expired ∙ none.expired n t l m,
 )
 
-pub expired_only : (c : ℕ) (row : SlotSet) (f : ℕ → Bool) (old new : GrantPhases) (b : Bool) → ChangesExpired c row old new → ((n t : ℕ) → n < 4 → t < 32 → has (expired_row old n) t ≡ false) → ((t : ℕ) → has row t ≡ f t) → b ≡ true → (n t : ℕ) → n < 4 → t < 32 → has (expired_row new n) t ≡ (n == c && b && f t)
+pub expired_only : (c : ℕ) (row : SlotSet) (f : ℕ → Bool) (old new : GrantPhases) (b : Bool) → ChangesExpired c row old new → ((n t : ℕ) → n < 4 → t < 32 → has (expired_row old n) t ≡ false)
+    → ((t : ℕ) → has row t ≡ f t) → b ≡ true → (n t : ℕ) → n < 4 → t < 32 → has (expired_row new n) t ≡ (n == c && b && f t)
 expired_only c row f old new b change none is so n t l m = by_place (n == c) refl
   where
     by_place : (x : Bool) → (n == c) ≡ x → has (expired_row new n) t ≡ (n == c && b && f t)
@@ -101,7 +107,8 @@ expired_only c row f old new b change none is so n t l m = by_place (n == c) ref
     by_place false at =
         ap (λ r. has r t) (change.expired n) ∙ ap (λ x. has (if x then row else expired_row old n) t) at ∙ none n t l m ∙ ap (λ x. x && b && f t) (sym at)
 
-pub idle_only : (c : ℕ) (may_be e : Bool) (old new : GrantPhases) (b : Bool) → ChangesIdle c may_be old new → ((n : ℕ) → n < 4 → is_idle_at old n ≡ false) → may_be ≡ e → b ≡ true → (n : ℕ) → n < 4 → is_idle_at new n ≡ (n == c && b && e)
+pub idle_only : (c : ℕ) (may_be e : Bool) (old new : GrantPhases) (b : Bool) → ChangesIdle c may_be old new → ((n : ℕ) → n < 4 → is_idle_at old n ≡ false) → may_be ≡ e → b ≡ true → (n : ℕ) → n < 4
+    → is_idle_at new n ≡ (n == c && b && e)
 idle_only c may_be e old new b change none is so n l = by_place (n == c) refl
   where
     by_place : (x : Bool) → (n == c) ≡ x → is_idle_at new n ≡ (n == c && b && e)

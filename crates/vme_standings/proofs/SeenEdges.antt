@@ -171,18 +171,22 @@ pub place_is : (a b : Segment) → Some a ≡ Some b → a.place ≡ b.place
 place_is a b e = let same : a ≡ b = cc in ap (λ (x : Segment). x.place) same
 
 -- a segment of the acknowledge chain is moved by who drives it
-pub of_segment : (p : Plan) → IsAccepted p → (e : Edge) (place : Option ℕ) → has_wire e.driver e.wire ≡ true → segment_of e.wire (board_of p e.driver) ≡ Some (record { chain = chain.Iack; place = place }) → IsOfSegment e place
+pub of_segment : (p : Plan) → IsAccepted p → (e : Edge) (place : Option ℕ) → has_wire e.driver e.wire ≡ true
+    → segment_of e.wire (board_of p e.driver) ≡ Some (record { chain = chain.Iack; place = place }) → IsOfSegment e place
 of_segment p ok e place has is = by_wire e.driver e.wire refl refl has is
   where
-    of_requester : (r : Row) (o : Option RequesterRow) → option_map {U = Segment} (λ (q : RequesterRow). record { chain = grant_chain q.level; place = Some r.slot }) o ≡ Some (record { chain = chain.Iack; place = place }) → ⊥
+    of_requester : (r : Row) (o : Option RequesterRow) → option_map {U = Segment} (λ (q : RequesterRow). record { chain = grant_chain q.level; place = Some r.slot }) o
+        ≡ Some (record { chain = chain.Iack; place = place }) → ⊥
     of_requester r None x = absurd (cc)
-    of_requester r (Some q) x = no_grant (q.level == 0) (q.level == 1) (q.level == 2) (chain_is (record { chain = grant_chain q.level; place = Some r.slot }) (record { chain = chain.Iack; place = place }) x)
+    of_requester r (Some q) x = no_grant (q.level == 0) (q.level == 1) (q.level == 2) (chain_is (record { chain = grant_chain q.level; place = Some r.slot })
+        (record { chain = chain.Iack; place = place }) x)
 
     of_board : (o : Option Row) → grant_output o ≡ Some (record { chain = chain.Iack; place = place }) → ⊥
     of_board None x = absurd (cc)
     of_board (Some r) x = of_requester r r.requester x
 
-    by_board : (s : ℕ) (o : Option Row) → board p s ≡ o → e.driver ≡ Slot s → e.wire ≡ wire.IackOut → segment_of wire.IackOut o ≡ Some (record { chain = chain.Iack; place = place }) → IsOfSegment e place
+    by_board : (s : ℕ) (o : Option Row) → board p s ≡ o → e.driver ≡ Slot s → e.wire ≡ wire.IackOut → segment_of wire.IackOut o ≡ Some (record { chain = chain.Iack; place = place })
+        → IsOfSegment e place
     by_board s None at driver w x = absurd (cc)
     by_board s (Some r) at driver w x =
         let own : Some r.slot ≡ place = place_is (record { chain = chain.Iack; place = Some r.slot }) (record { chain = chain.Iack; place = place }) x in

@@ -20,7 +20,8 @@ kept_all P s = record {
 }
 
 -- one test more
-pub kept_more : (P : ℕ → GrantPhase → Type 0) (k : ℕ) (first old new : GrantPhases) → KeepsPhases (λ q. (j : ℕ) → j < k → P j q) first old → KeepsPhases (P k) old new → KeepsPhases (λ q. (j : ℕ) → j < k + 1 → P j q) first new
+pub kept_more : (P : ℕ → GrantPhase → Type 0) (k : ℕ) (first old new : GrantPhases) → KeepsPhases (λ q. (j : ℕ) → j < k → P j q) first old → KeepsPhases (P k) old new
+    → KeepsPhases (λ q. (j : ℕ) → j < k + 1 → P j q) first new
 kept_more P k first old new before here = record {
   only = λ q table h.
       let w = here.only q table h in
@@ -43,7 +44,8 @@ in_table s test exact (Held b t) e = exact.held b t (near b 22 (and_left (nat_lt
 in_table s test exact (Expired c t) e = exact.expired c t (near c 4 (and_left (nat_lt c 4) (nat_lt t 22) e)) (place t (and_right (nat_lt c 4) (nat_lt t 22) e))
 
 -- a cut by a fact keeps the phases in which it is so
-pub cut_keeps : (P : GrantPhase → Type 0) (so : GrantPhase → Bool) (old new : GrantPhases) → HasExactly new (λ q. has_phase old q && so q) → ((q : GrantPhase) → so q ≡ true → P q) → ((q : GrantPhase) → P q → so q ≡ true) → KeepsPhases P old new
+pub cut_keeps : (P : GrantPhase → Type 0) (so : GrantPhase → Bool) (old new : GrantPhases) → HasExactly new (λ q. has_phase old q && so q) → ((q : GrantPhase) → so q ≡ true → P q)
+    → ((q : GrantPhase) → P q → so q ≡ true) → KeepsPhases P old new
 cut_keeps P so old new exact so_then then_so = record {
   only = λ q table h.
       let e = sym (in_table new (λ q. has_phase old q && so q) exact q table) ∙ h in

@@ -100,7 +100,8 @@ asker_below p ok s =
 pub taker_below : (p : Plan) → IsAccepted p → (requests : BusLevels) (phases : GrantPhases) (s : ℕ) → (nat_lt s 22 && is_taken p requests phases s) ≡ is_taken p requests phases s
 taker_below p ok requests phases s =
     below (is_taken p requests phases)
-    (λ t far. ap (λ o. option_map_or (λ q. has_bus_level requests q.level && has_phase phases (Granting q.level (place_before p q.level t))) (option_and_then (λ r. r.requester) o) false) (no_board p ok t far)) s
+    (λ t far. ap (λ o. option_map_or (λ q. has_bus_level requests q.level && has_phase phases (Granting q.level (place_before p q.level t))) (option_and_then (λ r. r.requester) o) false)
+    (no_board p ok t far)) s
 
 near_of : (s : ℕ) (o : Option ℕ) → s ≤ 22 → ((t : ℕ) → o ≡ Some t → nat_lt t s ≡ true) → place_of o < 22
 near_of s None near less = omega arith

@@ -34,8 +34,10 @@ either_way x a b e (inl l) = left x a b e l
 either_way x a b e (inr r) = right x a b e r
 
 pub requests_covered : (p : Plan) (h : List Edge) (a b new : Requests) → UnitesRequests a b new → CoversRequests p h (may_be a) ⊎ CoversRequests p h (may_be b) → CoversRequests p h (may_be new)
-requests_covered p h a b new unites (inl covers) s is = left (may_be new s (request_of p h s)) (may_be a s (request_of p h s)) (may_be b s (request_of p h s)) (unites s (request_of p h s)) (covers s is)
-requests_covered p h a b new unites (inr covers) s is = right (may_be new s (request_of p h s)) (may_be a s (request_of p h s)) (may_be b s (request_of p h s)) (unites s (request_of p h s)) (covers s is)
+requests_covered p h a b new unites (inl covers) s is = left (may_be new s (request_of p h s)) (may_be a s (request_of p h s)) (may_be b s (request_of p h s)) (unites s (request_of p h s))
+    (covers s is)
+requests_covered p h a b new unites (inr covers) s is = right (may_be new s (request_of p h s)) (may_be a s (request_of p h s)) (may_be b s (request_of p h s)) (unites s (request_of p h s))
+    (covers s is)
 
 pub drivers_covered : (h : List Edge) (w : Wire) (a b new : SlotSet) → UnitesSlots a b new → CoversDrivers h w a ⊎ CoversDrivers h w b → CoversDrivers h w new
 drivers_covered h w a b new unites (inl covers) s is = left (has new s) (has a s) (has b s) (unites s) (covers s is)

@@ -103,7 +103,8 @@ module _ (p : Plan) (ok : IsAccepted p) (version : Version) (requests : BusLevel
       (both (is_of_level p c t) (place_before p c t == place_before p c t) (and_left (is_of_level p c t) may falls) (same (place_before p c t))))
       (and_right (is_of_level p c t) may falls))
 
-  reached_falls : (from : GrantPhases) → Only from → (c : ℕ) → c < 4 → (lasts : SlotSet) → Walks p c (falls_unseen p version probed c) (is_last p requests probed c from) lasts → (n t : ℕ) → t < n → has lasts t ≡ true → IsReached p version requests probed s (Granting c t)
+  reached_falls : (from : GrantPhases) → Only from → (c : ℕ) → c < 4 → (lasts : SlotSet) → Walks p c (falls_unseen p version probed c) (is_last p requests probed c from) lasts → (n t : ℕ) → t < n
+      → has lasts t ≡ true → IsReached p version requests probed s (Granting c t)
   reached_falls from only c few lasts walks zero t l h = absurd (omega arith)
   reached_falls from only c few lasts walks (suc n) t l h =
       ⊎_elim
@@ -116,7 +117,8 @@ module _ (p : Plan) (ok : IsAccepted p) (version : Version) (requests : BusLevel
       (and_right (falls_unseen p version probed c t) (has lasts (place_before p c t)) e)))
       (or_cases (is_last p requests probed c from t) (falls_unseen p version probed c t && has lasts (place_before p c t)) (sym (walks t) ∙ h))
 
-  taken_back : (c t : ℕ) (lasts : SlotSet) → ((t : ℕ) → has lasts t ≡ true → IsReached p version requests probed s (Granting c t)) → ((is_two version && (is_unseen probed c 0 && has lasts (end_place p c))) && is_follower p c 0 t) ≡ true → IsReached p version requests probed s (Expired c t)
+  taken_back : (c t : ℕ) (lasts : SlotSet) → ((t : ℕ) → has lasts t ≡ true → IsReached p version requests probed s (Granting c t))
+      → ((is_two version && (is_unseen probed c 0 && has lasts (end_place p c))) && is_follower p c 0 t) ≡ true → IsReached p version requests probed s (Expired c t)
   taken_back c t lasts granting e =
       let out = and_left (is_two version && (is_unseen probed c 0 && has lasts (end_place p c))) (is_follower p c 0 t) e in
       let rest = and_right (is_two version) (is_unseen probed c 0 && has lasts (end_place p c)) out in
@@ -126,20 +128,25 @@ module _ (p : Plan) (ok : IsAccepted p) (version : Version) (requests : BusLevel
       (both (is_two version) (is_unseen probed c 0 && end_place p c == end_place p c) (and_left (is_two version) (is_unseen probed c 0 && has lasts (end_place p c)) out)
       (both (is_unseen probed c 0) (end_place p c == end_place p c) (and_left (is_unseen probed c 0) (has lasts (end_place p c)) rest) (same (end_place p c)))))
 
-  risen : (c t : ℕ) → (is_two version && rises_unseen p probed c t) ≡ true → IsReached p version requests probed s (Expired c (place_before p c t)) → IsReached p version requests probed s (Expired c t)
+  risen : (c t : ℕ) → (is_two version && rises_unseen p probed c t) ≡ true → IsReached p version requests probed s (Expired c (place_before p c t))
+      → IsReached p version requests probed s (Expired c t)
   risen c t may before =
       let rises = and_right (is_two version) (rises_unseen p probed c t) may in
       Further (Expired c (place_before p c t)) (Expired c t) before
       (both (c == c && is_follower p c (place_before p c t) t) (is_two version && is_unseen probed c (place_before p c t))
       (both (c == c) (is_follower p c (place_before p c t) t) (same c)
       (both (is_of_level p c t) (place_before p c t == place_before p c t) (and_left (is_of_level p c t) (is_unseen probed c (place_before p c t)) rises) (same (place_before p c t))))
-      (both (is_two version) (is_unseen probed c (place_before p c t)) (and_left (is_two version) (rises_unseen p probed c t) may) (and_right (is_of_level p c t) (is_unseen probed c (place_before p c t)) rises)))
+      (both (is_two version) (is_unseen probed c (place_before p c t)) (and_left (is_two version) (rises_unseen p probed c t) may)
+      (and_right (is_of_level p c t) (is_unseen probed c (place_before p c t)) rises)))
 
-  reached_rises : (from : GrantPhases) → Only from → (c : ℕ) → c < 4 → (lasts firsts : SlotSet) → ((t : ℕ) → has lasts t ≡ true → IsReached p version requests probed s (Granting c t)) → Walks p c (λ t. is_two version && rises_unseen p probed c t) (is_first p version probed c lasts from) firsts → (n t : ℕ) → t < n → has firsts t ≡ true → IsReached p version requests probed s (Expired c t)
+  reached_rises : (from : GrantPhases) → Only from → (c : ℕ) → c < 4 → (lasts firsts : SlotSet) → ((t : ℕ) → has lasts t ≡ true → IsReached p version requests probed s (Granting c t))
+      → Walks p c (λ t. is_two version && rises_unseen p probed c t) (is_first p version probed c lasts from) firsts → (n t : ℕ) → t < n → has firsts t ≡ true
+      → IsReached p version requests probed s (Expired c t)
   reached_rises from only c few lasts firsts granting walks zero t l h = absurd (omega arith)
   reached_rises from only c few lasts firsts granting walks (suc n) t l h =
       ⊎_elim
-      (λ first. ⊎_elim (λ row. only (Expired c t) few row) (taken_back c t lasts granting) (or_cases (has (expired_row from c) t) ((is_two version && (is_unseen probed c 0 && has lasts (end_place p c))) && is_follower p c 0 t) first))
+      (λ first. ⊎_elim (λ row. only (Expired c t) few row) (taken_back c t lasts granting) (or_cases (has (expired_row from c) t)
+      ((is_two version && (is_unseen probed c 0 && has lasts (end_place p c))) && is_follower p c 0 t) first))
       (λ e.
       let may = and_left (is_two version && rises_unseen p probed c t) (has firsts (place_before p c t)) e in
       risen c t may
@@ -148,7 +155,8 @@ module _ (p : Plan) (ok : IsAccepted p) (version : Version) (requests : BusLevel
       (and_right (is_two version && rises_unseen p probed c t) (has firsts (place_before p c t)) e)))
       (or_cases (is_first p version probed c lasts from t) ((is_two version && rises_unseen p probed c t) && has firsts (place_before p c t)) (sym (walks t) ∙ h))
 
-  over : (c : ℕ) (firsts : SlotSet) → ((t : ℕ) → has firsts t ≡ true → IsReached p version requests probed s (Expired c t)) → is_over p version probed c firsts ≡ true → IsReached p version requests probed s (Idle c)
+  over : (c : ℕ) (firsts : SlotSet) → ((t : ℕ) → has firsts t ≡ true → IsReached p version requests probed s (Expired c t)) → is_over p version probed c firsts ≡ true
+      → IsReached p version requests probed s (Idle c)
   over c firsts expired e =
       let rest = and_right (is_two version) (is_unseen probed c (end_place p c) && has firsts (end_place p c)) e in
       Further (Expired c (end_place p c)) (Idle c) (expired (end_place p c) (and_right (is_unseen probed c (end_place p c)) (has firsts (end_place p c)) rest))
@@ -222,7 +230,8 @@ rows_of (Held b t) e = let l : b < 22 = grind (arith, nat_tests) in l
 rows_of (Expired c t) e = let l : c < 4 = grind (arith, nat_tests) in l
 
 -- the unseen rises of holders add only what is reached, and take nothing away
-pub begin_only : (p : Plan) (ok : IsAccepted p) (version : Version) (requests : BusLevels) (probed : List SlotSet) (s new : GrantPhases) → RisesAllHeld p probed s new → Only p ok version requests probed s new
+pub begin_only : (p : Plan) (ok : IsAccepted p) (version : Version) (requests : BusLevels) (probed : List SlotSet) (s new : GrantPhases) → RisesAllHeld p probed s new
+    → Only p ok version requests probed s new
 begin_only p ok version requests probed s new rises (Idle c) few h = Here (Idle c) (ap (λ xs. slice_index_or xs c false) (sym rises.idle) ∙ h)
 begin_only p ok version requests probed s new rises (Granting c t) few h = Here (Granting c t) (ap (λ xs. has (slice_index_or xs c no_slots) t) (sym rises.granting) ∙ h)
 begin_only p ok version requests probed s new rises (Held b t) few h = reached_held p ok version requests probed s b (held_row new b) (rises.held b few) (suc t) t (omega arith) h
@@ -237,7 +246,8 @@ begin_kept p probed s new rises (Held b t) few h =
 begin_kept p probed s new rises (Expired c t) few h = ap (λ xs. has (slice_index_or xs c no_slots) t) rises.expired ∙ h
 
 -- what a round keeps
-pub round_kept : (p : Plan) (version : Version) (requests : BusLevels) (probed : List SlotSet) (from new : GrantPhases) → IsRound p version requests probed from new → (q : GrantPhase) → InRows q → has_phase from q ≡ true → has_phase new q ≡ true
+pub round_kept : (p : Plan) (version : Version) (requests : BusLevels) (probed : List SlotSet) (from new : GrantPhases) → IsRound p version requests probed from new → (q : GrantPhase) → InRows q
+    → has_phase from q ≡ true → has_phase new q ≡ true
 round_kept p version requests probed from new round (Idle c) few h = (round.level c few).idle ∙ or_left _ _ h
 round_kept p version requests probed from new round (Granting c t) few h = (round.level c few).falls t ∙ or_left _ _ (or_left _ _ h)
 round_kept p version requests probed from new round (Held b t) few h = ap (λ rows. has (slice_index_or rows b no_slots) t) round.held ∙ h
@@ -275,26 +285,30 @@ module _ (a b : GrantPhases) (e : is_idle_alike a b ≡ true) where
 abbrev pub HeldRises : Plan → List SlotSet → GrantPhases → GrantPhases → Type 0
 HeldRises p probed old new = (b : ℕ) → b < 22 → RisesHeld p probed b (held_row old b) (held_row new b)
 
-module _ (p : Plan) (version : Version) (requests : BusLevels) (probed : List SlotSet) (old from new : GrantPhases) (round : IsRound p version requests probed from new) (idle : is_idle_alike new from ≡ true) (held : HeldRises p probed old new) where
+module _ (p : Plan) (version : Version) (requests : BusLevels) (probed : List SlotSet) (old from new : GrantPhases) (round : IsRound p version requests probed from new)
+    (idle : is_idle_alike new from ≡ true) (held : HeldRises p probed old new) where
   grants : (last c t : ℕ) → last < 4 → (is_unseen probed c 0 && (t == 0 && is_picked p requests last c)) ≡ true → is_idle_at new last ≡ true → has (granting_row new c) t ≡ true
   grants last c t few e h =
       let rest = and_right (is_unseen probed c 0) (t == 0 && is_picked p requests last c) e in
       let picked = and_right (t == 0) (is_picked p requests last c) rest in
       let was : is_idle_at from last ≡ true = sym (idle_same new from idle last few) ∙ h in
-      let granted : is_granted p requests c from ≡ true = some_level (λ n. is_idle_at from n && is_picked p requests n c) last few (both (is_idle_at from last) (is_picked p requests last c) was picked) in
+      let granted : is_granted p requests c from ≡ true = some_level (λ n. is_idle_at from n && is_picked p requests n c) last few
+      (both (is_idle_at from last) (is_picked p requests last c) was picked) in
       (round.level c (picked_few p requests last c picked)).falls t
       ∙ or_left (is_last p requests probed c from t) (falls_unseen p version probed c t && has (granting_row new c) (place_before p c t))
       (or_true (has (granting_row from c) t) (t == 0 && (is_unseen probed c 0 && is_granted p requests c from))
       (both (t == 0) (is_unseen probed c 0 && is_granted p requests c from) (and_left (t == 0) (is_picked p requests last c) rest)
       (both (is_unseen probed c 0) (is_granted p requests c from) (and_left (is_unseen probed c 0) (t == 0 && is_picked p requests last c) e) granted)))
 
-  passes : (c s t : ℕ) → c < 4 → is_follower p c s t ≡ true → ((is_two version || not (t == end_place p c)) && is_unseen probed c t) ≡ true → has (granting_row new c) s ≡ true → has (granting_row new c) t ≡ true
+  passes : (c s t : ℕ) → c < 4 → is_follower p c s t ≡ true → ((is_two version || not (t == end_place p c)) && is_unseen probed c t) ≡ true → has (granting_row new c) s ≡ true
+      → has (granting_row new c) t ≡ true
   passes c s t few follows may h =
       let before : place_before p c t ≡ s = same_number _ _ (and_right (is_of_level p c t) _ follows) in
       (round.level c few).falls t
       ∙ or_true _ _ (both _ _ (both _ _ (and_left _ _ follows) may) (ap (has (granting_row new c)) before ∙ h))
 
-  runs_out : (c s t : ℕ) → c < 4 → is_follower p c 0 t ≡ true → (is_two version && (is_unseen probed c 0 && s == end_place p c)) ≡ true → has (granting_row new c) s ≡ true → has (expired_row new c) t ≡ true
+  runs_out : (c s t : ℕ) → c < 4 → is_follower p c 0 t ≡ true → (is_two version && (is_unseen probed c 0 && s == end_place p c)) ≡ true → has (granting_row new c) s ≡ true
+      → has (expired_row new c) t ≡ true
   runs_out c s t few follows may h =
       let rest = and_right (is_two version) _ may in
       let end : s ≡ end_place p c = same_number _ _ (and_right (is_unseen probed c 0) _ rest) in
@@ -394,7 +408,8 @@ one_more false true keeps e = omega arith
 one_more false false keeps e = absurd (cc)
 
 -- a round that adds an idle phase
-pub round_adds : (p : Plan) (version : Version) (requests : BusLevels) (probed : List SlotSet) (from new : GrantPhases) → IsRound p version requests probed from new → is_idle_alike new from ≡ false → idle_count from < idle_count new
+pub round_adds : (p : Plan) (version : Version) (requests : BusLevels) (probed : List SlotSet) (from new : GrantPhases) → IsRound p version requests probed from new → is_idle_alike new from ≡ false
+    → idle_count from < idle_count new
 round_adds p version requests probed from new round e = by_first (and_cases (alike_at new from 0) _ e)
   where
     keeps : (c : ℕ) → c < 4 → is_idle_at from c ≡ true → is_idle_at new c ≡ true
@@ -420,7 +435,8 @@ round_adds p version requests probed from new round e = by_first (and_cases (ali
 
     at_three : (alike_at new from 3 && true) ≡ false → idle_count from < idle_count new
     at_three d =
-        ⊎_elim (λ here. let x = kept 0 zero_few in let y = kept 1 one_few in let z = kept 2 two_few in let w = more 3 three_few here in omega arith) (λ no. absurd (cc)) (and_cases (alike_at new from 3) true d)
+        ⊎_elim (λ here. let x = kept 0 zero_few in let y = kept 1 one_few in let z = kept 2 two_few in let w = more 3 three_few here in omega arith) (λ no. absurd (cc))
+        (and_cases (alike_at new from 3) true d)
 
     at_two : (alike_at new from 2 && (alike_at new from 3 && true)) ≡ false → idle_count from < idle_count new
     at_two d =
@@ -435,6 +451,7 @@ round_adds p version requests probed from new round e = by_first (and_cases (ali
         ⊎_elim (λ here. let x = more 0 zero_few here in let y = kept 1 one_few in let z = kept 2 two_few in let w = kept 3 three_few in omega arith) at_one d
 
 -- the rows of holders stay as they are
-pub held_stays : (p : Plan) (version : Version) (requests : BusLevels) (probed : List SlotSet) (old from new : GrantPhases) → IsRound p version requests probed from new → HeldRises p probed old from → HeldRises p probed old new
+pub held_stays : (p : Plan) (version : Version) (requests : BusLevels) (probed : List SlotSet) (old from new : GrantPhases) → IsRound p version requests probed from new → HeldRises p probed old from
+    → HeldRises p probed old new
 held_stays p version requests probed old from new round held b few =
     subst (λ rows. RisesHeld p probed b (held_row old b) (slice_index_or rows b no_slots)) (sym round.held) (held b few)

@@ -112,6 +112,7 @@ pub none_there : (s : SlotSet) (is_some : Bool) → is_some ≡ false → ((u : 
 none_there s is_some off none u = is_false (has s u) (λ h. let e = none u h in cc)
 
 -- the same walk from and by sets that are alike
-pub walks_alike : (from first held steps reached : ℕ → Bool) (before : ℕ → ℕ) → ((t : ℕ) → from t ≡ first t) → ((t : ℕ) → held t ≡ steps t) → ((t : ℕ) → reached t ≡ (from t || (held t && reached (before t)))) → (t : ℕ) → reached t ≡ (first t || (steps t && reached (before t)))
+pub walks_alike : (from first held steps reached : ℕ → Bool) (before : ℕ → ℕ) → ((t : ℕ) → from t ≡ first t) → ((t : ℕ) → held t ≡ steps t)
+    → ((t : ℕ) → reached t ≡ (from t || (held t && reached (before t)))) → (t : ℕ) → reached t ≡ (first t || (steps t && reached (before t)))
 walks_alike from first held steps reached before is same walked t =
     walked t ∙ ap (λ x. x || (held t && reached (before t))) (is t) ∙ ap (λ x. first t || (x && reached (before t))) (same t)

@@ -87,7 +87,8 @@ module _ (version : Version) (p : Plan) (ok : IsAccepted p) (h : List Edge) (e :
       is_by e (λ s. has old s ≡ true) f.0.slot (in_slot p ok f.0.slot f.0 f.2.alone) (driver_of f.0.slot t.0) (covers f.0.slot was)
 
   -- an edge that leaves the line leaves the drivers covered, if nobody pulls it while it is low
-  pub stay_leaves : (old : SlotSet) → ((s : ℕ) → is_edge_of (Slot s) w e ≡ true → line p (e ∷ h) w ≡ line p h w) → ((s : ℕ) → is_edge_of (Slot s) w e ≡ true → e.fall ≡ true → line p h w ≡ false) → CoversDrivers h w old → CoversDrivers (e ∷ h) w old
+  pub stay_leaves : (old : SlotSet) → ((s : ℕ) → is_edge_of (Slot s) w e ≡ true → line p (e ∷ h) w ≡ line p h w) → ((s : ℕ) → is_edge_of (Slot s) w e ≡ true → e.fall ≡ true → line p h w ≡ false)
+      → CoversDrivers h w old → CoversDrivers (e ∷ h) w old
   stay_leaves old stays alone covers s low = by_level (drive h (Slot s) w) refl
     where
       by_level : (b : Bool) → drive h (Slot s) w ≡ b → has old s ≡ true
@@ -144,7 +145,8 @@ edge_wire e s w is = same_wire e.wire w (and_left (is_same_wire e.wire w) (is_sa
 edge_driver : (e : Edge) (s : ℕ) (w : Wire) → is_edge_of (Slot s) w e ≡ true → is_same_driver e.driver (Slot s) ≡ true
 edge_driver e s w is = and_right (is_same_wire e.wire w) (is_same_driver e.driver (Slot s)) is
 
-legal_as : (version : Version) (p : Plan) (h : List Edge) (e : Edge) (s : ℕ) (w : Wire) → IsLegal version p (e ∷ h) → e.driver ≡ Slot s → e.wire ≡ w → e.fall ≡ true → IsLegal version p (at s w true e.value ∷ h)
+legal_as : (version : Version) (p : Plan) (h : List Edge) (e : Edge) (s : ℕ) (w : Wire) → IsLegal version p (e ∷ h) → e.driver ≡ Slot s → e.wire ≡ w → e.fall ≡ true
+    → IsLegal version p (at s w true e.value ∷ h)
 legal_as version p h e s w legal driver wire way =
     subst (λ f. IsLegal version p (record { driver = Slot s; wire = w; fall = f; value = e.value } ∷ h)) way
     (subst (λ x. IsLegal version p (record { driver = Slot s; wire = x; fall = e.fall; value = e.value } ∷ h)) wire
@@ -187,4 +189,5 @@ module _ (version : Version) (p : Plan) (ok : IsAccepted p) (pins : List Pin) (h
   pub strobes : (old : SlotSet) → CoversDrivers h AddressStrobe old → (s : ℕ) → is_same_driver e.driver (Slot s) ≡ true → e.wire ≡ DataStrobe → e.fall ≡ true → has old s ≡ true
   strobes old covers s driver wire way =
       let passed = passed_as version p h e s DataStrobe true legal driver wire way in
-      covers s (and_left (drive h (Slot s) AddressStrobe) (drive h (Slot s) Addr) (and_left _ (not (line p h Dtack)) (and_left _ (not (drive h Controller Berr)) (and_left _ (not (has_strobed h (Slot s))) passed.rule))))
+      covers s (and_left (drive h (Slot s) AddressStrobe) (drive h (Slot s) Addr) (and_left _ (not (line p h Dtack))
+      (and_left _ (not (drive h Controller Berr)) (and_left _ (not (has_strobed h (Slot s))) passed.rule))))

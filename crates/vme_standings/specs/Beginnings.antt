@@ -22,7 +22,8 @@ ShowsChain p probed low c q =
     → ShowsAt p c (slice_index_or probed c no_slots) (slice_index_or low c no_slots) s q
 
 -- the bus can be in the phase, with BBSY* and the probed segments as they are
-pub record CanBegin (p : Plan) (version : Version) (requests : BusLevels) (held : Bool) (probed low : List SlotSet) (q : GrantPhase) : Type 0 where
+pub record CanBegin (p : Plan) (version : Version) (requests : BusLevels) (held : Bool)
+    (probed low : List SlotSet) (q : GrantPhase) : Type 0 where
   pub possible : is_possible p version requests q ≡ true
   pub bbsy : is_held q ≡ held
   pub shown : (c : ℕ) → c < 4 → ShowsChain p probed low c q

@@ -80,16 +80,19 @@ strobed_behind (moved.Line line.DataStrobe) true old = true
 strobed_behind _ _ old = old
 
 -- a segment of the grant chain falls: the controller's, or that of a board
-pub record GrantFalls (p : Plan) (version : Version) (st : Standings) (c place : ℕ) (new : GrantPhases) : Type 0 where
+pub record GrantFalls (p : Plan) (version : Version) (st : Standings) (c place : ℕ)
+    (new : GrantPhases) : Type 0 where
   pub granted : place ≡ 0 → HasExactly new (behind_grant p (asked st.lines) c st.phases)
   pub passed : 0 < place → HasExactly new (behind_pass p version c place st.phases)
 
 -- the grants and BBSY*
-abbrev pub PhasesBehind : Plan → Version → Standings → Moved → Bool → Option Value → GrantPhases → Type 0
+abbrev pub PhasesBehind : Plan → Version → Standings → Moved → Bool → Option Value → GrantPhases
+    → Type 0
 PhasesBehind p version st (moved.Line (line.Br n)) true v new =
     (boards : SlotSet) × AreAskers p n st.phases boards × IsBehindRequest boards st.phases new
 PhasesBehind p version st (moved.Line (line.Br n)) false v new =
-    HasExactly new (λ q. (is_two version || is_held_by (is_of_level p n) q) && has_phase st.phases q)
+    HasExactly new (λ q. (is_two version || is_held_by (is_of_level p n) q)
+    && has_phase st.phases q)
 PhasesBehind p version st (moved.Line line.Bbsy) true v new =
     HasExactly new (behind_take p (asked st.lines) st.phases)
 PhasesBehind p version st (moved.Line line.Bbsy) false v new =
@@ -171,8 +174,8 @@ RequestsAnswered p st v (Some (shown.Acknowledge n)) new =
     × Acknowledged boards roak st.requests new
 RequestsAnswered p st v None new = new ≡ st.requests
 
--- behind a fall of the slot's segment of the acknowledge chain: if its board is of the acknowledge's
--- level, its request is not pending
+-- behind a fall of the slot's segment of the acknowledge chain: if its board is of the
+-- acknowledge's level, its request is not pending
 pub record PassedAt (p : Plan) (lines : Levels) (n s : ℕ) (old new : Requests) : Type 0 where
   pub boards : SlotSet
   pub level : AreOnLevel p n boards
@@ -198,7 +201,8 @@ RequestsBehind p st (moved.Acknowledge place) true v new = RequestsPassed p st p
 RequestsBehind p st _ _ v new = new ≡ st.requests
 
 -- all parts, behind the change
-pub record IsBehind (p : Plan) (probed : Probed) (old : Standings) (c : Change) (new : Standings) : Type 0 where
+pub record IsBehind (p : Plan) (probed : Probed) (old : Standings) (c : Change)
+    (new : Standings) : Type 0 where
   pub lines : LinesBehind c.signal c.fall old.lines new.lines
   pub low : LowBehind p c.signal c.fall old.low new.low
   pub shown : new.shown ≡ shown_behind (moved_by p c.signal) c.fall c.value old.shown

@@ -84,7 +84,8 @@ phase_at (row.Held b) t = Held b t
 phase_at (row.Expired c) t = Expired c t
 
 -- the new set is the old one but for the phases of a level in which nobody holds the bus
-pub record ChangesLevel (level : ℕ) (may_be : Bool) (lasts firsts : SlotSet) (old new : GrantPhases) : Type 0 where
+pub record ChangesLevel (level : ℕ) (may_be : Bool) (lasts firsts : SlotSet)
+    (old new : GrantPhases) : Type 0 where
   pub idle : (n : ℕ) → is_idle_at new n ≡ (if n == level then may_be else is_idle_at old n)
   pub granting : (n : ℕ)
       → granting_row new n ≡ (if n == level then lasts else granting_row old n)

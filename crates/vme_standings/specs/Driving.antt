@@ -58,9 +58,10 @@ pub record AreAskers (p : Plan) (n : ℕ) (phases : GrantPhases) (boards : SlotS
   pub all : (s : ℕ) (q : GrantPhase) → s < 22 → is_in_table q ≡ true → is_of_level p n s ≡ true
       → has_phase phases q ≡ true → is_held_by (λ b. b == s) q ≡ false → has boards s ≡ true
 
--- a rise of BRn*: in the first version a board of the level that may hold the bus, and in the second
--- any of the level
-pub record AreWithdrawers (p : Plan) (version : Version) (n : ℕ) (phases : GrantPhases) (boards : SlotSet) : Type 0 where
+-- a rise of BRn*: in the first version a board of the level that may hold the bus, and in the
+-- second any of the level
+pub record AreWithdrawers (p : Plan) (version : Version) (n : ℕ) (phases : GrantPhases)
+    (boards : SlotSet) : Type 0 where
   pub two : is_two version ≡ true → (s : ℕ) → has boards s ≡ is_of_level p n s
   pub some : is_two version ≡ false → (s : ℕ) → has boards s ≡ true →
       (is_of_level p n s ≡ true) × ((first : ℕ) × (has_phase phases (Held s first) ≡ true))
@@ -80,7 +81,8 @@ may_show_value p (Some value.Access) s = true
 may_show_value p _ s = false
 
 -- a fall of AS*: a holder that may show it, while no probed pin of the acknowledge chain is low
-pub record AreStarters (p : Plan) (st : Standings) (v : Option Value) (boards : SlotSet) : Type 0 where
+pub record AreStarters (p : Plan) (st : Standings) (v : Option Value)
+    (boards : SlotSet) : Type 0 where
   pub some : (s : ℕ) → has boards s ≡ true → (is_no_slot st.low.acknowledge ≡ true)
       × (may_show_value p v s ≡ true) × (s < 22)
       × ((first : ℕ) × (has_phase st.phases (Held s first) ≡ true))
@@ -107,9 +109,10 @@ may_answer_with p n None s = is_on_level p n s
 may_answer_with p n (Some (value.Status b)) s = is_on_level p n s && is_meant_at (WithStatus b) p s
 may_answer_with p n _ s = false
 
--- a fall of DTACK* while this is shown: with a byte only in an acknowledge, by an interrupter of its
--- level that it may have reached, that may be pending, and whose byte that is; in an access without
--- a byte, by the board in the slot, or by any board if the slot is not known and BERR* is high
+-- a fall of DTACK* while this is shown: with a byte only in an acknowledge, by an interrupter of
+-- its level that it may have reached, that may be pending, and whose byte that is; in an access
+-- without a byte, by the board in the slot, or by any board if the slot is not known and BERR* is
+-- high
 abbrev pub AnswersShown : Plan → Standings → Option Value → Option Shown → SlotSet → Type 0
 AnswersShown p st v (Some (shown.Access (Some t))) boards =
     (s : ℕ) → has boards s
@@ -167,7 +170,8 @@ pub record MayPass (boards low : SlotSet) (d : Requests) (s : ℕ) (may : Bool) 
   pub unable : has boards s ≡ true → may ≡ false → CannotPass s boards (has low s) d
 
 -- the same by the level of the acknowledge
-pub record MayPassAt (p : Plan) (lines : Levels) (n : ℕ) (d : Requests) (s : ℕ) (may : Bool) : Type 0 where
+pub record MayPassAt (p : Plan) (lines : Levels) (n : ℕ) (d : Requests) (s : ℕ)
+    (may : Bool) : Type 0 where
   pub boards : SlotSet
   pub low : SlotSet
   pub level : AreOnLevel p n boards
@@ -182,8 +186,8 @@ is_acknowledged _ = false
 abbrev pub is_under_way : Standings → Bool
 is_under_way st = is_acknowledged st.shown && is_left_low st line.DataStrobe
 
--- a fall of a board's segment of the acknowledge chain while this is shown: the acknowledge is under
--- way and may have reached the board, DTACK* is high, and the board may pass it on
+-- a fall of a board's segment of the acknowledge chain while this is shown: the acknowledge is
+-- under way and may have reached the board, DTACK* is high, and the board may pass it on
 abbrev pub PassesShown : Plan → Standings → ℕ → Option Shown → SlotSet → Type 0
 PassesShown p st place (Some (shown.Acknowledge n)) boards =
     (may : Bool) × MayPassAt p st.lines n st.requests place may
@@ -224,7 +228,8 @@ can_time_out p st =
     && nobody_answers p st.fronts st.shown
 
 -- BCLR* may fall, or rise: in some phase bus clear is due, or is not due
-pub record CanClear (p : Plan) (requests : BusLevels) (fall : Bool) (phases : GrantPhases) (can : Bool) : Type 0 where
+pub record CanClear (p : Plan) (requests : BusLevels) (fall : Bool) (phases : GrantPhases)
+    (can : Bool) : Type 0 where
   pub some : can ≡ true → (q : GrantPhase) × (has_phase phases q ≡ true)
       × (are_alike (is_clear_due p requests q) fall ≡ true)
   pub all : (q : GrantPhase) → is_in_table q ≡ true → has_phase phases q ≡ true
@@ -248,6 +253,7 @@ ControllerMakes p version st (moved.Acknowledge place) false may =
     may ≡ (place == 0 && not (is_some st.shown))
 
 -- who may have made the change
-pub record AreDrivers (p : Plan) (probed : Probed) (st : Standings) (c : Change) (d : Drivers) : Type 0 where
+pub record AreDrivers (p : Plan) (probed : Probed) (st : Standings) (c : Change)
+    (d : Drivers) : Type 0 where
   pub controller : ControllerMakes p probed.version st (moved_by p c.signal) c.fall d.controller
   pub boards : BoardsMake p probed.version st (moved_by p c.signal) c.fall c.value d.boards

@@ -43,7 +43,8 @@ pub record HidesRequests (p : Plan) (lines : Levels) (old new : Requests) : Type
   pub moves : MovesUnseen low shared old new
 
 -- the boards with an interrupter that may pass the acknowledge of the level on
-pub record ArePassing (p : Plan) (lines : Levels) (n : ℕ) (d : Requests) (set : SlotSet) : Type 0 where
+pub record ArePassing (p : Plan) (lines : Levels) (n : ℕ) (d : Requests)
+    (set : SlotSet) : Type 0 where
   pub boards : SlotSet
   pub low : SlotSet
   pub boards_are : AreOnLevel p n boards
@@ -56,7 +57,8 @@ abbrev pub AreUnseen : SlotSet → SlotSet → Type 0
 AreUnseen probed unseen = (s : ℕ) → s < 22 → has unseen s ≡ not (has probed s)
 
 -- the acknowledge of the level may come further
-pub record HidesFronts (p : Plan) (probed : Probed) (st : Standings) (n : ℕ) (old new : Fronts) : Type 0 where
+pub record HidesFronts (p : Plan) (probed : Probed) (st : Standings) (n : ℕ)
+    (old new : Fronts) : Type 0 where
   pub unseen : SlotSet
   pub passing : SlotSet
   pub unseen_are : AreUnseen probed.segments.acknowledge unseen
@@ -74,7 +76,8 @@ abbrev pub is_waited_for : Standings → Bool
 is_waited_for st = is_left_low st line.DataStrobe && not (is_left_low st line.Dtack)
 
 -- the grants may move: to exactly the phases to which edges lead that no probe sees
-pub record HidesPhases (p : Plan) (probed : Probed) (requests : BusLevels) (old new : GrantPhases) : Type 0 where
+pub record HidesPhases (p : Plan) (probed : Probed) (requests : BusLevels)
+    (old new : GrantPhases) : Type 0 where
   pub kept : (q : GrantPhase) → has_row_for q ≡ true → has_phase old q ≡ true
       → has_phase new q ≡ true
   pub closed : (q r : GrantPhase) → has_row_for q ≡ true

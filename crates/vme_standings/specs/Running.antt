@@ -71,7 +71,8 @@ pub data CannotRun (p : Plan) (probed : Probed) (lines : Levels) (low : Segments
       → CannotRun p probed lines low
 
 -- the phases are those in which the bus can begin
-pub record AreBeginnings (p : Plan) (probed : Probed) (lines : Levels) (low : Segments) (new : GrantPhases) : Type 0 where
+pub record AreBeginnings (p : Plan) (probed : Probed) (lines : Levels) (low : Segments)
+    (new : GrantPhases) : Type 0 where
   pub only : (q : GrantPhase) → is_in_table q ≡ true → has_phase new q ≡ true
       → CanBegin p probed.version (asked lines) (is_line_left_low lines line.Bbsy)
       probed.segments.grants low.grants q
@@ -91,7 +92,8 @@ pub record AreUnknown (p : Plan) (lines : Levels) (new : Requests) : Type 0 wher
   pub unknown : Unknown boards low shared new
 
 -- a bus can run with these levels, and this is known of it
-pub record Runs (p : Plan) (probed : Probed) (lines : Levels) (low : Segments) (new : Standings) : Type 0 where
+pub record Runs (p : Plan) (probed : Probed) (lines : Levels) (low : Segments)
+    (new : Standings) : Type 0 where
   pub some_phase : (q : GrantPhase) × (has_phase new.phases q ≡ true)
   pub answered : (is_line_left_low lines line.Dtack && is_line_left_low lines line.Berr) ≡ false
   pub driven : (l : Line) → IsUndriven p lines l → ⊥

@@ -1,8 +1,11 @@
 -- What is known of a bus of which one of two is known, part by part: it may stand so if it may by
 -- one of the two.
-use Rattle.std.specs.Prelude.{◌≡◌, ◌||◌, ℕ}
+use Rattle.std.specs.Prelude.{◌≡◌, ◌||◌, ℕ, true, is_some}
+use Rattle.vme_model.specs.declared.sets.ChainId.{ChainId}
 use Rattle.vme_bus.specs.declared.sets.SlotSet.{SlotSet}
 use Rattle.vme_bus.specs.Sets.{has}
+use Rattle.vme_captures.specs.declared.signals.Line.{Line}
+use Rattle.vme_captures.specs.Levels.{is_line_left_low}
 use Rattle.vme_standings.specs.declared.fronts.Fronts.{Fronts}
 use Rattle.vme_standings.specs.declared.phases.GrantPhases.{GrantPhases}
 use Rattle.vme_standings.specs.declared.requests.Request.{Request}
@@ -10,6 +13,7 @@ use Rattle.vme_standings.specs.declared.requests.Requests.{Requests}
 use Rattle.vme_standings.specs.declared.standings.Standings.{Standings}
 use Rattle.vme_standings.specs.Phases.{HasExactly, has_phase}
 use Rattle.vme_standings.specs.RequestSets.{may_be}
+use Rattle.vme_standings.specs.Segments.{has_segment}
 
 abbrev pub UnitesSlots : SlotSet → SlotSet → SlotSet → Type 0
 UnitesSlots a b new = (s : ℕ) → has new s ≡ (has a s || has b s)
@@ -35,3 +39,11 @@ pub record Unites (a b new : Standings) : Type 0 where
   pub answerers : UnitesSlots a.answerers b.answerers new.answerers
   pub fronts : UnitesFronts a.fronts b.fronts new.fronts
   pub requests : UnitesRequests a.requests b.requests new.requests
+
+-- By both the probes saw the same: the levels, what is shown, and, while AS* is low, whether DS*
+-- has fallen.
+pub record SeeAlike (a b : Standings) : Type 0 where
+  pub lines : (l : Line) → is_line_left_low a.lines l ≡ is_line_left_low b.lines l
+  pub low : (c : ChainId) (s : ℕ) → has_segment a.low c s ≡ has_segment b.low c s
+  pub shown : a.shown ≡ b.shown
+  pub strobed : is_some a.shown ≡ true → a.strobed ≡ b.strobed

@@ -51,7 +51,8 @@ leads p version requests probed (Expired c s) (Idle n) =
 leads p version requests probed _ _ = false
 
 -- the phases to which such edges lead, one after the other
-pub data IsReached (p : Plan) (version : Version) (requests : BusLevels) (probed : List SlotSet) (s : GrantPhases) : GrantPhase → Type 0 where
+pub data IsReached (p : Plan) (version : Version) (requests : BusLevels) (probed : List SlotSet)
+    (s : GrantPhases) : GrantPhase → Type 0 where
   Here : (q : GrantPhase) → has_phase s q ≡ true → IsReached p version requests probed s q
   Further : (q r : GrantPhase) → IsReached p version requests probed s q
       → leads p version requests probed q r ≡ true → IsReached p version requests probed s r
@@ -90,14 +91,17 @@ is_over p version probed c firsts =
     is_two version && (is_unseen probed c (end_place p c) && has firsts (end_place p c))
 
 -- the phases of a level in which nobody holds the bus, and those to which its chain leads from them
-pub record ReachesLevel (p : Plan) (version : Version) (requests : BusLevels) (probed : List SlotSet) (c : ℕ) (from : GrantPhases) (is_idle : Bool) (lasts firsts : SlotSet) : Type 0 where
+pub record ReachesLevel (p : Plan) (version : Version) (requests : BusLevels)
+    (probed : List SlotSet) (c : ℕ) (from : GrantPhases) (is_idle : Bool)
+    (lasts firsts : SlotSet) : Type 0 where
   pub falls : Walks p c (falls_unseen p version probed c) (is_last p requests probed c from) lasts
   pub rises : Walks p c (λ t. is_two version && rises_unseen p probed c t)
       (is_first p version probed c lasts from) firsts
   pub idle : is_idle ≡ (is_idle_at from c || is_over p version probed c firsts)
 
 -- the same of each level
-pub record IsRound (p : Plan) (version : Version) (requests : BusLevels) (probed : List SlotSet) (from new : GrantPhases) : Type 0 where
+pub record IsRound (p : Plan) (version : Version) (requests : BusLevels) (probed : List SlotSet)
+    (from new : GrantPhases) : Type 0 where
   pub level : (c : ℕ) → c < 4
       → ReachesLevel p version requests probed c from (is_idle_at new c) (granting_row new c)
       (expired_row new c)

@@ -7,8 +7,8 @@
 //! `joined_laws` proves it of all of them together, for every list of edges that shows a capture.
 //!
 //! [`Standings`] has them all. It begins at power-up or on a running bus. At each change
-//! `with_hidden` adds the edges that no probe sees, `drivers` says who may have made the change, and
-//! `behind` says what is known once it was made.
+//! `with_hidden` adds the edges that no probe sees, `drivers` says who may have made the change,
+//! and `behind` says what is known once it was made.
 #![tactic(auto)]
 
 mod beginnings;

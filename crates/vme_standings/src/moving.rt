@@ -9,8 +9,8 @@ use vme_captures::{Levels, Line, Pin, Signal, wire_of};
 use vme_model::{BusLevels, ChainId};
 use vme_slots::Plan;
 
-/// What a change moves: a shared line, or a segment of a daisy chain. A segment is named by the slot
-/// of the board that drives it, and 0 names the controller's.
+/// What a change moves: a shared line, or a segment of a daisy chain. A segment is named by the
+/// slot of the board that drives it, and 0 names the controller's.
 #[derive(Clone, Copy, PartialEq, Eq, Debug)]
 pub enum Moved {
     /// A shared line.

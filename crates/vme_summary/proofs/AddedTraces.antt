@@ -81,7 +81,8 @@ none_refused r is = record {
   trace_full = is.trace_full;
 }
 
-pub no_trace : (x : Added) → x.edges ≡ 0 → x.accepted ≡ 0 → x.refused ≡ 0 → x.passed ≡ replicate 27 0 → IsRefusalsOf [] x.refusals → x.met ≡ replicate (length all_events) 0 → x.boards ≡ replicate 22 idle → AreSumsOf [] x
+pub no_trace : (x : Added) → x.edges ≡ 0 → x.accepted ≡ 0 → x.refused ≡ 0 → x.passed ≡ replicate 27 0 → IsRefusalsOf [] x.refusals → x.met ≡ replicate (length all_events) 0
+    → x.boards ≡ replicate 22 idle → AreSumsOf [] x
 no_trace x edges accepted_ refused_ passed refusals met boards = record {
   edges = edges;
   accepted = accepted_;

@@ -42,7 +42,8 @@ count_after p a t few = at (p a) refl
 takes_ends : (s : ℕ) (a : Answered) → falls (Slot s) Bbsy a ≡ true → (falls (Slot s) Br a ≡ false) × ((rises (Slot s) Br a || falls (Slot s) Bbsy a) ≡ true)
 takes_ends s a h = at (is_accepted a) a.edge.fall a.edge.wire (is_same_driver a.edge.driver (Slot s)) h
   where
-    at : (o f : Bool) (w : Wire) (d : Bool) → (o && (f && (is_same_wire w Bbsy && d))) ≡ true → ((o && (f && (is_same_wire w Br && d))) ≡ false) × (((o && (not f && (is_same_wire w Br && d))) || (o && (f && (is_same_wire w Bbsy && d)))) ≡ true)
+    at : (o f : Bool) (w : Wire) (d : Bool) → (o && (f && (is_same_wire w Bbsy && d))) ≡ true → ((o && (f && (is_same_wire w Br && d))) ≡ false)
+        × (((o && (not f && (is_same_wire w Br && d))) || (o && (f && (is_same_wire w Bbsy && d)))) ≡ true)
     at true true Bbsy true h = (refl, refl)
     at true true w d h = (cc, cc)
     at o f w d h = (cc, cc)
@@ -56,7 +57,8 @@ gives_ends s a h = (at (is_accepted a) a.edge.fall (is_edge_of (Slot s) Bbsy a.e
     at false f e h = refl
 
 pub whole : (s : ℕ) (a : Answered) (t : Answers) → length t + 1 < 2 ^ 64
-    → board_tally s (a ∷ t) ≡ moved (board_tally s t) (length (a ∷ t)) (falls (Slot s) Br a) (rises (Slot s) Br a) (falls (Slot s) Bbsy a) (rises (Slot s) Bbsy a) (falls (Slot s) AddressStrobe a) (falls (Slot s) Dtack a) (falls (Slot s) Dtack a && delivers a.answer)
+    → board_tally s (a ∷ t) ≡ moved (board_tally s t) (length (a ∷ t)) (falls (Slot s) Br a) (rises (Slot s) Br a) (falls (Slot s) Bbsy a) (rises (Slot s) Bbsy a) (falls (Slot s) AddressStrobe a)
+    (falls (Slot s) Dtack a) (falls (Slot s) Dtack a && delivers a.answer)
 whole s a t few =
     let asked = count_after (falls (Slot s) Br) a t few in
     let tenures = count_after (falls (Slot s) Bbsy) a t few in
@@ -93,7 +95,9 @@ abbrev pub own : ℕ → Wire → Bool → Option Cycle → ℕ → Option Deliv
 own s w fall v k d comes = record { edge = record { driver = Slot s; wire = w; fall = fall; value = v }; rule = k; answer = Ok d; comes = comes }
 
 after_own : (s : ℕ) (w : Wire) (fall : Bool) (v : Option Cycle) (k : ℕ) (d : Option Delivery) (comes : Event → Bool) (t : Answers) (n : ℕ) → (s == s) ≡ true
-    → moved (board_tally s t) n (falls (Slot s) Br (own s w fall v k d comes)) (rises (Slot s) Br (own s w fall v k d comes)) (falls (Slot s) Bbsy (own s w fall v k d comes)) (rises (Slot s) Bbsy (own s w fall v k d comes)) (falls (Slot s) AddressStrobe (own s w fall v k d comes)) (falls (Slot s) Dtack (own s w fall v k d comes)) (falls (Slot s) Dtack (own s w fall v k d comes) && delivers (Ok d))
+    → moved (board_tally s t) n (falls (Slot s) Br (own s w fall v k d comes)) (rises (Slot s) Br (own s w fall v k d comes)) (falls (Slot s) Bbsy (own s w fall v k d comes))
+    (rises (Slot s) Bbsy (own s w fall v k d comes)) (falls (Slot s) AddressStrobe (own s w fall v k d comes)) (falls (Slot s) Dtack (own s w fall v k d comes))
+    (falls (Slot s) Dtack (own s w fall v k d comes) && delivers (Ok d))
     ≡ board_after (board_tally s t) w fall n (is_some d)
 after_own s Br true v k d comes t n same = rw same refl
 after_own s Br false v k d comes t n same = rw same refl
@@ -124,12 +128,15 @@ after_own s IackOut true v k d comes t n same = refl
 after_own s IackOut false v k d comes t n same = refl
 
 moved_by : ℕ → Answered → Answers → BoardTally
-moved_by s a t = moved (board_tally s t) (length t + 1) (falls (Slot s) Br a) (rises (Slot s) Br a) (falls (Slot s) Bbsy a) (rises (Slot s) Bbsy a) (falls (Slot s) AddressStrobe a) (falls (Slot s) Dtack a) (falls (Slot s) Dtack a && delivers a.answer)
+moved_by s a t = moved (board_tally s t) (length t + 1) (falls (Slot s) Br a) (rises (Slot s) Br a) (falls (Slot s) Bbsy a) (rises (Slot s) Bbsy a) (falls (Slot s) AddressStrobe a)
+    (falls (Slot s) Dtack a) (falls (Slot s) Dtack a && delivers a.answer)
 
-own_is : (s : ℕ) (a : Answered) (w : Wire) (fall : Bool) (d : Option Delivery) → a.answer ≡ Ok d → a.edge.driver ≡ Slot s → a.edge.wire ≡ w → a.edge.fall ≡ fall → a ≡ own s w fall a.edge.value a.rule d a.comes
+own_is : (s : ℕ) (a : Answered) (w : Wire) (fall : Bool) (d : Option Delivery) → a.answer ≡ Ok d → a.edge.driver ≡ Slot s → a.edge.wire ≡ w → a.edge.fall ≡ fall
+    → a ≡ own s w fall a.edge.value a.rule d a.comes
 own_is s a w fall d answer driver wire falls_ = rw (sym answer, sym driver, sym wire, sym falls_) refl
 
-pub own_moves : (s : ℕ) (a : Answered) (w : Wire) (fall : Bool) (d : Option Delivery) (t : Answers) → length t + 1 < 2 ^ 64 → a.answer ≡ Ok d → a.edge.driver ≡ Slot s → a.edge.wire ≡ w → a.edge.fall ≡ fall
+pub own_moves : (s : ℕ) (a : Answered) (w : Wire) (fall : Bool) (d : Option Delivery) (t : Answers) → length t + 1 < 2 ^ 64 → a.answer ≡ Ok d → a.edge.driver ≡ Slot s → a.edge.wire ≡ w
+    → a.edge.fall ≡ fall
     → board_after (board_tally s t) w fall (length t + 1) (is_some d) ≡ board_tally s (a ∷ t)
 unfolding moved_by
 own_moves s a w fall d t few answer driver wire falls_ =
@@ -137,7 +144,8 @@ own_moves s a w fall d t few answer driver wire falls_ =
     let count : length (a ∷ t) ≡ length t + 1 = omega arith in
     sym (
     whole s a t few
-    ∙ ap (λ n. moved (board_tally s t) n (falls (Slot s) Br a) (rises (Slot s) Br a) (falls (Slot s) Bbsy a) (rises (Slot s) Bbsy a) (falls (Slot s) AddressStrobe a) (falls (Slot s) Dtack a) (falls (Slot s) Dtack a && delivers a.answer)) count
+    ∙ ap (λ n. moved (board_tally s t) n (falls (Slot s) Br a) (rises (Slot s) Br a) (falls (Slot s) Bbsy a) (rises (Slot s) Bbsy a) (falls (Slot s) AddressStrobe a) (falls (Slot s) Dtack a)
+    (falls (Slot s) Dtack a && delivers a.answer)) count
     ∙ ap (λ x. moved_by s x t) (own_is s a w fall d answer driver wire falls_)
     ∙ after_own s w fall a.edge.value a.rule d a.comes t (length t + 1) same
     )

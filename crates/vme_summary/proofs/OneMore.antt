@@ -42,7 +42,8 @@ nothing_refused r rules settlings no_such_driver already_there trace_full = reco
 other_refusal : (r q : Refused) (a : Answered) (t : Answers) → a.answer ≡ Err q → is_refusal r (Err q) ≡ false → refused_for r (a ∷ t) ≡ refused_for r t
 other_refusal r q a t is otherwise = count_no (λ b. is_refusal r b.answer) a t (ap (is_refusal r) is ∙ otherwise)
 
-pub rule_refused : (r s : Refusals) (a : Answered) (t : Answers) (i : ℕ) → IsRefusalsOf t r → a.answer ≡ Err (Rule i) → length t + 1 < 2 ^ 64 → s ≡ record r { rules = set r.rules i (more (get_or r.rules i 0) 1) } → IsRefusalsOf (a ∷ t) s
+pub rule_refused : (r s : Refusals) (a : Answered) (t : Answers) (i : ℕ) → IsRefusalsOf t r → a.answer ≡ Err (Rule i) → length t + 1 < 2 ^ 64
+    → s ≡ record r { rules = set r.rules i (more (get_or r.rules i 0) 1) } → IsRefusalsOf (a ∷ t) s
 rule_refused r s a t i is refused few after = rw after (record {
   places = (length-set r.rules i (more (get_or r.rules i 0) 1) ∙ is.places.0, is.places.1);
   rules = λ k within. counted (λ b. is_refusal (Rule k) b.answer) a t r.rules i k (rw is.places.0 within) few (is.rules k within) (ap (is_refusal (Rule k)) refused);
@@ -52,7 +53,8 @@ rule_refused r s a t i is refused few after = rw after (record {
   trace_full = is.trace_full ∙ sym (other_refusal TraceFull (Rule i) a t refused refl);
 })
 
-pub settling_refused : (r s : Refusals) (a : Answered) (t : Answers) (i : ℕ) → IsRefusalsOf t r → a.answer ≡ Err (NotSettled i) → length t + 1 < 2 ^ 64 → s ≡ record r { settlings = set r.settlings i (more (get_or r.settlings i 0) 1) } → IsRefusalsOf (a ∷ t) s
+pub settling_refused : (r s : Refusals) (a : Answered) (t : Answers) (i : ℕ) → IsRefusalsOf t r → a.answer ≡ Err (NotSettled i) → length t + 1 < 2 ^ 64
+    → s ≡ record r { settlings = set r.settlings i (more (get_or r.settlings i 0) 1) } → IsRefusalsOf (a ∷ t) s
 settling_refused r s a t i is refused few after = rw after (record {
   places = (is.places.0, length-set r.settlings i (more (get_or r.settlings i 0) 1) ∙ is.places.1);
   rules = λ k within. is.rules k within ∙ sym (other_refusal (Rule k) (NotSettled i) a t refused refl);
@@ -126,7 +128,8 @@ module _ (b : State) (w : Wire) (fall : Bool) (v : Option Cycle) (d : Option Del
   boards_are boards Controller accepted places is s within =
       is s within ∙ sym (unmoved s (answered_edge b (edge Controller)) t few (other_moves_none s (answered_edge b (edge Controller)) refl))
   boards_are boards (Slot u) accepted places is s within = elim (cases_eq u s) [
-    | inl same ↦ subst (λ x. get_or (boards_after boards (Slot u) (edge (Slot u)) (length t + 1) (is_some d)) x idle ≡ board_tally x (answered_edge b (edge (Slot u)) ∷ t)) same (own_board boards u accepted places is (rw same within))
+    | inl same ↦ subst (λ x. get_or (boards_after boards (Slot u) (edge (Slot u)) (length t + 1) (is_some d)) x idle ≡ board_tally x (answered_edge b (edge (Slot u)) ∷ t)) same
+        (own_board boards u accepted places is (rw same within))
     | inr other ↦
         let apart : (u == s) ≡ false = grind (arith, nat_tests, other) in
         get_or-set_other boards u s (board_after (get_or boards u idle) w fall (length t + 1) (is_some d)) idle (λ e. other (sym e)) ∙ is s within
@@ -158,7 +161,8 @@ module _ (b : State) (w : Wire) (fall : Bool) (v : Option Cycle) (d : Option Del
       })
 
 -- an edge that is refused
-pub edge_refused : (b : State) (e : Edge) (q : Refused) (t : Answers) (x y : Tally) (r : Refusals) (n : ℕ) → length t + 1 < 2 ^ 64 → IsTallyOf t x → (answered_edge b e).answer ≡ Err q → n ≡ x.edges + 1
+pub edge_refused : (b : State) (e : Edge) (q : Refused) (t : Answers) (x y : Tally) (r : Refusals) (n : ℕ) → length t + 1 < 2 ^ 64 → IsTallyOf t x → (answered_edge b e).answer ≡ Err q
+    → n ≡ x.edges + 1
     → IsRefusalsOf (answered_edge b e ∷ t) r → y ≡ record x { edges = n; refusals = r } → IsTallyOf (answered_edge b e ∷ t) y
 edge_refused b e q t x y r n few is refused next counts after =
     let a = answered_edge b e in

@@ -32,7 +32,8 @@ use Rattle.vme_summary.proofs.OneMore.{numbered}
 use Rattle.vme_summary.proofs.Passing.{passed}
 
 -- counts of several kinds, and what an edge adds to all of them
-counts_step : {K : Type 0} (p : K → Answered → Bool) (a : Answered) (t : Answers) (ks : List K) → sum_by (λ k. count_by (p k) (a ∷ t)) ks ≡ sum_by (λ k. if p k a then 1 else 0) ks + sum_by (λ k. count_by (p k) t) ks
+counts_step : {K : Type 0} (p : K → Answered → Bool) (a : Answered) (t : Answers) (ks : List K)
+    → sum_by (λ k. count_by (p k) (a ∷ t)) ks ≡ sum_by (λ k. if p k a then 1 else 0) ks + sum_by (λ k. count_by (p k) t) ks
 counts_step p a t [] = omega arith
 counts_step p a t (k ∷ ks) =
     let all = sum_by-cons (λ k. count_by (p k) (a ∷ t)) k ks in
@@ -43,7 +44,8 @@ counts_step p a t (k ∷ ks) =
     omega (arith, all, one, rest, here, others)
 
 -- counts of several kinds share those that q counts, if each such edge is of one kind
-module _ {K : Type 0} (p : K → Answered → Bool) (q : Answered → Bool) (ks : List K) (share : (b : State) (e : Edge) → sum_by (λ k. if p k (answered_edge b e) then 1 else 0) ks ≡ (if q (answered_edge b e) then 1 else 0)) where
+module _ {K : Type 0} (p : K → Answered → Bool) (q : Answered → Bool) (ks : List K) (share : (b : State) (e : Edge)
+    → sum_by (λ k. if p k (answered_edge b e) then 1 else 0) ks ≡ (if q (answered_edge b e) then 1 else 0)) where
   one_more : (b : State) (e : Edge) (t : Answers) → sum_by (λ k. count_by (p k) t) ks ≡ count_by q t → sum_by (λ k. count_by (p k) (answered_edge b e ∷ t)) ks ≡ count_by q (answered_edge b e ∷ t)
   one_more b e t before =
       let a = answered_edge b e in
@@ -94,7 +96,8 @@ one_rule true Dtack false = refl
 
 pub by_one_rule_each : (b : State) (es : List Edge) → sum_by (λ k. passed_by k (answered b es)) (up_to 26) ≡ accepted (answered b es)
 by_one_rule_each = shared (λ k a. is_accepted a && a.rule == k) is_accepted (up_to 26) (λ b e.
-    ap (λ n. sum_by (λ k. if is_accepted (answered_edge b e) && n == k then 1 else 0) (up_to 26)) (numbered b.version (readings b.plan b.history e.driver) e.wire e.fall e.value) ∙ one_rule (is_accepted (answered_edge b e)) e.wire e.fall)
+    ap (λ n. sum_by (λ k. if is_accepted (answered_edge b e) && n == k then 1 else 0) (up_to 26)) (numbered b.version (readings b.plan b.history e.driver) e.wire e.fall e.value)
+    ∙ one_rule (is_accepted (answered_edge b e)) e.wire e.fall)
 
 -- how many of the refusals that are counted an answer is
 abbrev pub known : List Refused
@@ -185,7 +188,8 @@ once s (suc n) least most =
     ]
 
 -- an accepted fall of BBSY* is of one slot's board
-takes_once : (o f w : Bool) (u : Driver) → (o ≡ true → w ≡ true → has_wire u Bbsy ≡ true) → sum_by (λ s. if o && (f && (w && is_same_driver u (Slot s))) then 1 else 0) (up_to 21) ≡ (if o && (f && w) then 1 else 0)
+takes_once : (o f w : Bool) (u : Driver) → (o ≡ true → w ≡ true → has_wire u Bbsy ≡ true) → sum_by (λ s. if o && (f && (w && is_same_driver u (Slot s))) then 1 else 0) (up_to 21)
+    ≡ (if o && (f && w) then 1 else 0)
 takes_once false f w u stands = refl
 takes_once true false w u stands = refl
 takes_once true true false u stands = refl

@@ -73,7 +73,8 @@ others_come n test v (u ∷ us) m none =
     let parts = or_parts (event_index u == event_index v) (list_any (λ u. event_index u == event_index v) us) none in
     at (test u) parts.0 (others_come n test v us m parts.1) (others_come n test v us (met_once n m u) parts.1)
   where
-    at : (b : Bool) → (event_index u == event_index v) ≡ false → Leaves v m (met_after n m (filter test us)) → Leaves v (met_once n m u) (met_after n (met_once n m u) (filter test us)) → Leaves v m (met_after n m (if b then u ∷ filter test us else filter test us))
+    at : (b : Bool) → (event_index u == event_index v) ≡ false → Leaves v m (met_after n m (filter test us)) → Leaves v (met_once n m u) (met_after n (met_once n m u) (filter test us))
+        → Leaves v m (met_after n m (if b then u ∷ filter test us else filter test us))
     at true apart past it = let places = once_places n m u in record {
       times = it.times ∙ other_times n m u v apart;
       first = it.first ∙ other_first n m u v apart;
@@ -87,10 +88,12 @@ record Comes (n : ℕ) (b : Bool) (v : Event) (m k : Met) : Type 0 where
   pub first : get_or k.first (event_index v) None ≡ (if b then option_or (get_or m.first (event_index v) None) (Some n) else get_or m.first (event_index v) None)
   pub places : (length k.times ≡ length all_events) × (length k.first ≡ length all_events)
 
-one_comes : (n : ℕ) (v : Event) (m k l : Met) (b : Bool) → (length m.times ≡ length all_events) × (length m.first ≡ length all_events) → Leaves v m k → Leaves v (if b then met_once n k v else k) l → Comes n b v m l
+one_comes : (n : ℕ) (v : Event) (m k l : Met) (b : Bool) → (length m.times ≡ length all_events) × (length m.first ≡ length all_events) → Leaves v m k → Leaves v (if b then met_once n k v else k) l
+    → Comes n b v m l
 one_comes n v m k l true places before past = let next = once_places n k v in record {
   times = past.times ∙ get_or-set_same k.times (event_index v) (more (get_or k.times (event_index v) 0) 1) 0 (rw (before.places.0, places.0) (index_below v)) ∙ ap (λ x. more x 1) before.times;
-  first = past.first ∙ get_or-set_same k.first (event_index v) (option_or (get_or k.first (event_index v) None) (Some n)) None (rw (before.places.1, places.1) (index_below v)) ∙ ap (λ x. option_or x (Some n)) before.first;
+  first = past.first ∙ get_or-set_same k.first (event_index v) (option_or (get_or k.first (event_index v) None) (Some n)) None (rw (before.places.1, places.1) (index_below v))
+      ∙ ap (λ x. option_or x (Some n)) before.first;
   places = (past.places.0 ∙ next.0 ∙ before.places.0 ∙ places.0, past.places.1 ∙ next.1 ∙ before.places.1 ∙ places.1);
 }
 one_comes n v m k l false places before past = record {
@@ -104,18 +107,21 @@ parted : (n : ℕ) (test : Event → Bool) (v : Event) (us ws : List Event) (m :
 parted n test v us ws m =
     ap (met_after n m) (filter-append test us (v ∷ ws)) ∙ fold-append (met_once n) m (filter test us) (filter test (v ∷ ws)) ∙ at (test v)
   where
-    at : (b : Bool) → met_after n (met_after n m (filter test us)) (if b then v ∷ filter test ws else filter test ws) ≡ met_after n (if b then met_once n (met_after n m (filter test us)) v else met_after n m (filter test us)) (filter test ws)
+    at : (b : Bool) → met_after n (met_after n m (filter test us)) (if b then v ∷ filter test ws else filter test ws)
+        ≡ met_after n (if b then met_once n (met_after n m (filter test us)) v else met_after n m (filter test us)) (filter test ws)
     at true = refl
     at false = refl
 
-all_come : (n : ℕ) (test : Event → Bool) (v : Event) (m : Met) → (length m.times ≡ length all_events) × (length m.first ≡ length all_events) → Comes n (test v) v m (met_after n m (filter test all_events))
+all_come : (n : ℕ) (test : Event → Bool) (v : Event) (m : Met) → (length m.times ≡ length all_events) × (length m.first ≡ length all_events)
+    → Comes n (test v) v m (met_after n m (filter test all_events))
 all_come n test v m places =
     let once = stands_once v in
     let us = take (event_index v) all_events in
     let ws = drop (event_index v + 1) all_events in
     let k = met_after n m (filter test us) in
     rw (once.is, parted n test v us ws m)
-    (one_comes n v m k (met_after n (if test v then met_once n k v else k) (filter test ws)) (test v) places (others_come n test v us m once.before) (others_come n test v ws (if test v then met_once n k v else k) once.past))
+    (one_comes n v m k (met_after n (if test v then met_once n k v else k) (filter test ws)) (test v) places (others_come n test v us m once.before)
+    (others_come n test v ws (if test v then met_once n k v else k) once.past))
 
 or_none : (o : Option ℕ) → option_or o None ≡ o
 or_none None = refl
@@ -132,7 +138,8 @@ events_came a t m few passes is = record {
     k : Met
     k = met_after (length t + 1) m (filter a.comes all_events)
 
-    times_at : (v : Event) (b : Bool) → a.comes v ≡ b → get_or k.times (event_index v) 0 ≡ (if b then more (get_or m.times (event_index v) 0) 1 else get_or m.times (event_index v) 0) → get_or k.times (event_index v) 0 ≡ times_met v (a ∷ t)
+    times_at : (v : Event) (b : Bool) → a.comes v ≡ b → get_or k.times (event_index v) 0 ≡ (if b then more (get_or m.times (event_index v) 0) 1 else get_or m.times (event_index v) 0)
+        → get_or k.times (event_index v) 0 ≡ times_met v (a ∷ t)
     times_at v true comes it = it ∙ more_one (λ x. is_accepted x && x.comes v) a t (get_or m.times (event_index v) 0) few (is.times v) (ap (λ (o : Bool). o && a.comes v) passes ∙ comes)
     times_at v false comes it = it ∙ is.times v ∙ sym (count_no (λ x. is_accepted x && x.comes v) a t (ap (λ (o : Bool). o && a.comes v) passes ∙ comes))
 

@@ -66,7 +66,8 @@ module _ (begins ends closes : Answered → Bool) (ending : (a : Answered) → c
       let most = spanned_apart (length (a ∷ t)) t (since t) refl (omega arith) h in
       record {
         all = omega (arith, sum_is, most);
-        begun = λ m is. absurd (some_none m (sym (ap (λ (b : Bool). if b then Some (length (a ∷ t)) else (if ends a then None else since t)) (ending a c).0 ∙ ap (λ (b : Bool). if b then None else since t) (ending a c).1) ∙ is));
+        begun = λ m is. absurd (some_none m (sym (ap (λ (b : Bool). if b then Some (length (a ∷ t)) else (if ends a then None else since t)) (ending a c).0
+            ∙ ap (λ (b : Bool). if b then None else since t) (ending a c).1) ∙ is));
       }
   next_apart a t false c h =
       let same = ap sum (not_closed since closes a t c) in

@@ -44,7 +44,8 @@ one_wire w own = refl
 module _ (b : State) (s : ℕ) where
   at_slot : (d : Driver) (w x : Wire) (f g : Bool) (v : _) → d ≡ Slot s → w ≡ x → f ≡ g → Passed b.version b.plan b.history d w f v → Passed b.version b.plan b.history (Slot s) x g v
   at_slot d w x f g v driver wire fall it =
-      subst (λ y. Passed b.version b.plan b.history (Slot s) x y v) fall (subst (λ y. Passed b.version b.plan b.history (Slot s) y f v) wire (subst (λ y. Passed b.version b.plan b.history y w f v) driver it))
+      subst (λ y. Passed b.version b.plan b.history (Slot s) x y v) fall (subst (λ y. Passed b.version b.plan b.history (Slot s) y f v) wire
+      (subst (λ y. Passed b.version b.plan b.history y w f v) driver it))
 
   module _ (e : Edge) (accepted : is_accepted (answered_edge b e) ≡ true) where
     of_bbsy : (g : Bool) → is_edge_of (Slot s) Bbsy e ≡ true → e.fall ≡ g → Passed b.version b.plan b.history (Slot s) Bbsy g e.value
@@ -92,7 +93,8 @@ asks_after r u f x y asks unasks takes o n asks_is unasks_is takes_is apart high
     at false false true apart high low free = is
     at false false false apart high low free = is
 
-holds_after : (u f y takes gives : Bool) (o : Option ℕ) (n : ℕ) → takes ≡ (f && u) → gives ≡ (not f && u) → is_some o ≡ y → is_some (if takes then Some n else (if gives then None else o)) ≡ (if u then f else y)
+holds_after : (u f y takes gives : Bool) (o : Option ℕ) (n : ℕ) → takes ≡ (f && u) → gives ≡ (not f && u) → is_some o ≡ y
+    → is_some (if takes then Some n else (if gives then None else o)) ≡ (if u then f else y)
 holds_after u f y takes gives o n takes_is gives_is is = rw (takes_is, gives_is) (at u f)
   where
     at : (u f : Bool) → is_some (if f && u then Some n else (if not f && u then None else o)) ≡ (if u then f else y)
@@ -105,7 +107,8 @@ one_wait : (n : ℕ) (o : Option ℕ) (ns : List ℕ) → is_some o ≡ true →
 one_wait n None ns is = absurd (never is)
 one_wait n (Some m) ns is = omega arith
 
-waits_after : (takes : Bool) (n k : ℕ) (o : Option ℕ) (ns : List ℕ) → (takes ≡ true → is_some o ≡ true) → length ns ≡ k → length ((if takes then spanned n o else []) ++ ns) ≡ (if takes then 1 else 0) + k
+waits_after : (takes : Bool) (n k : ℕ) (o : Option ℕ) (ns : List ℕ) → (takes ≡ true → is_some o ≡ true) → length ns ≡ k
+    → length ((if takes then spanned n o else []) ++ ns) ≡ (if takes then 1 else 0) + k
 waits_after true n k o ns asks before = one_wait n o ns (asks refl) ∙ ap (λ m. 1 + m) before
 waits_after false n k o ns asks before = omega (arith, before)
 
@@ -121,9 +124,13 @@ accepted_reported s b e t accepted is =
     let fallen : (w : Wire) → falls (Slot s) w a ≡ is_fall_of (Slot s) w e = λ w. ap (λ (o : Bool). o && is_fall_of (Slot s) w e) accepted in
     let risen : (w : Wire) → rises (Slot s) w a ≡ (not e.fall && is_edge_of (Slot s) w e) = λ w. ap (λ (o : Bool). o && (not e.fall && is_edge_of (Slot s) w e)) accepted in
     record {
-      asks = asks_after (is_edge_of (Slot s) Br e) (is_edge_of (Slot s) Bbsy e) e.fall (drive b.history (Slot s) Br) (drive b.history (Slot s) Bbsy) (falls (Slot s) Br a) (rises (Slot s) Br a) (falls (Slot s) Bbsy a) (asks_since s t) (length (a ∷ t)) (fallen Br) (risen Br) (fallen Bbsy) (one_wire e.wire (is_same_driver e.driver (Slot s))) (asks_high b s e accepted) (takes_low b s e accepted) (gives_high b s e accepted) is.asks;
-      holds = holds_after (is_edge_of (Slot s) Bbsy e) e.fall (drive b.history (Slot s) Bbsy) (falls (Slot s) Bbsy a) (rises (Slot s) Bbsy a) (holds_since s t) (length (a ∷ t)) (fallen Bbsy) (risen Bbsy) is.holds;
-      waits = waits_after (falls (Slot s) Bbsy a) (length (a ∷ t)) (fall_count Bbsy s t) (asks_since s t) (waits s t) (λ takes. asking (sym (fallen Bbsy) ∙ takes)) is.waits ∙ sym (count_step (falls (Slot s) Bbsy) a t);
+      asks = asks_after (is_edge_of (Slot s) Br e) (is_edge_of (Slot s) Bbsy e) e.fall (drive b.history (Slot s) Br) (drive b.history (Slot s) Bbsy) (falls (Slot s) Br a) (rises (Slot s) Br a)
+          (falls (Slot s) Bbsy a) (asks_since s t) (length (a ∷ t)) (fallen Br) (risen Br) (fallen Bbsy) (one_wire e.wire (is_same_driver e.driver (Slot s))) (asks_high b s e accepted)
+          (takes_low b s e accepted) (gives_high b s e accepted) is.asks;
+      holds = holds_after (is_edge_of (Slot s) Bbsy e) e.fall (drive b.history (Slot s) Bbsy) (falls (Slot s) Bbsy a) (rises (Slot s) Bbsy a) (holds_since s t) (length (a ∷ t)) (fallen Bbsy)
+          (risen Bbsy) is.holds;
+      waits = waits_after (falls (Slot s) Bbsy a) (length (a ∷ t)) (fall_count Bbsy s t) (asks_since s t) (waits s t) (λ takes. asking (sym (fallen Bbsy) ∙ takes)) is.waits
+          ∙ sym (count_step (falls (Slot s) Bbsy) a t);
     }
   where
     asking : is_fall_of (Slot s) Bbsy e ≡ true → is_some (asks_since s t) ≡ true
@@ -142,7 +149,8 @@ refused_reported s b e t refused is =
           ∙ ap (λ (x : Bool). is_some (if x then None else asks_since s t)) (none Bbsy).0 ∙ is.asks;
       holds = ap (λ (x : Bool). is_some (if x then Some (length (a ∷ t)) else (if rises (Slot s) Bbsy a then None else holds_since s t))) (none Bbsy).0
           ∙ ap (λ (x : Bool). is_some (if x then None else holds_since s t)) (none Bbsy).1 ∙ is.holds;
-      waits = waits_after (falls (Slot s) Bbsy a) (length (a ∷ t)) (fall_count Bbsy s t) (asks_since s t) (waits s t) (λ takes. absurd (never (sym (none Bbsy).0 ∙ takes))) is.waits ∙ sym (count_step (falls (Slot s) Bbsy) a t);
+      waits = waits_after (falls (Slot s) Bbsy a) (length (a ∷ t)) (fall_count Bbsy s t) (asks_since s t) (waits s t) (λ takes. absurd (never (sym (none Bbsy).0 ∙ takes))) is.waits
+          ∙ sym (count_step (falls (Slot s) Bbsy) a t);
     }
 
 one_reported : (s : ℕ) (b : State) (e : Edge) (t : Answers) → IsReported s b.history t → IsReported s (after b e).history (answered_edge b e ∷ t)

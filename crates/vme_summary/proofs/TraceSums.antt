@@ -50,7 +50,8 @@ answered_length b t (e ∷ es) = let is = answered_length (after b e) (answered_
 kept_count : (b : State) (t : Printed) (es : List Edge) → accepted (answered_on b t es) + length b.history ≡ accepted t + length (kept b es).history
 kept_count b t [] = refl
 kept_count b t (e ∷ es) =
-    at (is_ok (verdict b e)) (count_step is_accepted (answered_edge b e) t ∙ ap (λ (o : Bool). (if o then 1 else 0) + accepted t) (ok_with (verdict b e) (delivery b.plan b.history e))) (kept_count (after b e) (answered_edge b e ∷ t) es)
+    at (is_ok (verdict b e)) (count_step is_accepted (answered_edge b e) t ∙ ap (λ (o : Bool). (if o then 1 else 0) + accepted t) (ok_with (verdict b e) (delivery b.plan b.history e)))
+    (kept_count (after b e) (answered_edge b e ∷ t) es)
   where
     at : (o : Bool) → accepted (answered_edge b e ∷ t) ≡ (if o then 1 else 0) + accepted t
         → accepted (answered_on (after b e) (answered_edge b e ∷ t) es) + length (if o then made b e else b).history ≡ accepted (answered_edge b e ∷ t) + length (kept (after b e) es).history
@@ -109,7 +110,8 @@ module _ (p : Plan) (v : Version) (es : List Edge) (more : Result Bool Fault) (o
   at_end : (trace : List ℕ) (from to : Option (List ℕ)) → more ≡ Ok false → Came v trace from to es more → Came v trace from to es (Ok false)
   at_end trace from to is came = subst (Came v trace from to es) is came
 
-  pub sums_now : (status : Status) → more ≡ Ok false → status ≡ status_with (refused (answered (bench p v) es)) → Appends mid new (sum_text p v es) → LeavesNow (λ trace s a. Sums p trace s (traced a)) v es more old new (Ok status)
+  pub sums_now : (status : Status) → more ≡ Ok false → status ≡ status_with (refused (answered (bench p v) es)) → Appends mid new (sum_text p v es)
+      → LeavesNow (λ trace s a. Sums p trace s (traced a)) v es more old new (Ok status)
   sums_now status is done wrote = λ trace from to came.
       sums_done p v trace (streams from to old new) es (at_end trace from to is came) status (appends_behind old mid new (sum_text p v es) kept_so wrote) done
 

@@ -29,7 +29,8 @@ each_once (a ∷ t) = at (is_accepted a) refl (each_once t)
     at false is before = let same = count_no is_accepted a t is in let more = count_yes (λ x. not (is_accepted x)) a t (ap not is) in omega (arith, before, more, same)
 
 -- the words of those that pass, and of one more
-pub word_more : {X : Type 0} (f : X → List ℕ) (p : X → Bool) (xs : List X) (x : X) (o n : List ℕ) (b : Bool) → p x ≡ b → o ≡ flat_map f (filter p xs) → n ≡ o ++ (if b then f x else []) → n ≡ flat_map f (filter p (xs ++ x ∷ []))
+pub word_more : {X : Type 0} (f : X → List ℕ) (p : X → Bool) (xs : List X) (x : X) (o n : List ℕ) (b : Bool) → p x ≡ b → o ≡ flat_map f (filter p xs) → n ≡ o ++ (if b then f x else [])
+    → n ≡ flat_map f (filter p (xs ++ x ∷ []))
 word_more {X} f p xs x o n b is before after =
     after ∙ ap (λ l. l ++ (if b then f x else [])) before
     ∙ ap (λ l. flat_map f (filter p xs) ++ l) (at b)

@@ -154,7 +154,8 @@ kept_none None b h = tt
 kept_none (Some xs) None h = h
 kept_none (Some xs) (Some ys) h = sym h
 
-module _ (size : ℕ) (from to : Option (List ℕ)) (bytes : List ℕ) (es : List Edge) (buffer : List ℕ) (count : ℕ) (piece : ReadsUpTo size from to buffer count) (reader : ReaderState) (read : HasRead reader bytes es) where
+module _ (size : ℕ) (from to : Option (List ℕ)) (bytes : List ℕ) (es : List Edge) (buffer : List ℕ) (count : ℕ) (piece : ReadsUpTo size from to buffer count) (reader : ReaderState)
+    (read : HasRead reader bytes es) where
   pub pumped_end : (old : List Edge) (after : ReaderState) (none : count ≡ 0) → Ok tt ≡ answer_of (read_of bytes).fault → after.place ≡ None → after.version ≡ reader.version
       → PumpedUpTo size from to bytes es old old after (Ok false)
   pumped_end old after none answer used_up same = (

@@ -10,7 +10,8 @@ returns-in-Some-None-default-clause-asked c =
     let rows = rows_of (found_of c.args.operands.now) in
     let seeds : first_of (codes "seeds") rows ≡ None =
     sym c.text_of.ensures ∙ ap (λ o. option_map (λ t. t.now) o) c.in-Some-None-default.is-1 in
-    if_silent c.is_flagged-progress.result c.without_progress.result (Drawn c.in-Some-None-default.seed c.in_ok-until.until) (IsChoice rows c.args.version) c.without_progress.ensures.silent c.without_progress.ensures.idle
+    if_silent c.is_flagged-progress.result c.without_progress.result (Drawn c.in-Some-None-default.seed c.in_ok-until.until)
+    (IsChoice rows c.args.version) c.without_progress.ensures.silent c.without_progress.ensures.idle
     (λ off. (
       c.in_ok-seed.ensures.spelled ∙ c.in-Some-None-default.is-0,
       seeds,

@@ -11,5 +11,6 @@ returns-in-Ok-None-clause-spelled c =
 
 pub returns-in-Ok-Some-clause-spelled : goal.returns-in-Ok-Some-clause-spelled
 returns-in-Ok-Some-clause-spelled c =
-    whole_read (λ bs r. ParsesUnsigned 64 10 bs r × ExplainsUnsignedError 10 bs r × HasUnsignedDigitsIfOk bs r) 64 (found_of c.args.operands.now) c.args.name.now c.try_get_one.result (Some c.in-Ok-Some.n)
+    whole_read (λ bs r. ParsesUnsigned 64 10 bs r × ExplainsUnsignedError 10 bs r × HasUnsignedDigitsIfOk bs r) 64 (found_of c.args.operands.now) c.args.name.now c.try_get_one.result
+    (Some c.in-Ok-Some.n)
     (λ u x g. g.0) c.try_get_one.ensures.none c.try_get_one.ensures.value (search rules)

@@ -14,4 +14,5 @@ returns-in_err-slack c =
 pub returns : goal.returns
 returns c =
     let parts = split_parts 61 c.args.text.now (Some (c.in_ok-name.name, c.in_ok-name.number)) c.in_ok-name.ensures.cases (lit< tt) in
-    only_late c.args.text.now c.in_ok-name.name.now c.in_ok-name.number.now parts.0 (lacks_all 61 c.in_ok-name.name.now parts.1) c.in_ok-driver.driver c.in_ok-slack.slack c.in_ok-driver.ensures c.in_ok-slack.ensures
+    only_late c.args.text.now c.in_ok-name.name.now c.in_ok-name.number.now parts.0
+    (lacks_all 61 c.in_ok-name.name.now parts.1) c.in_ok-driver.driver c.in_ok-slack.slack c.in_ok-driver.ensures c.in_ok-slack.ensures

@@ -7,14 +7,17 @@ use Rattle.vme_program.proofs.comparisons.write_refused_in.Goals as goal
 pub returns-in_err-put-clause-front : goal.returns-in_err-put-clause-front
 returns-in_err-put-clause-front g c =
     on_err c.from_residual.result _
-    (line_first (g.W.Write.contents c.args.out.now) (g.W.Write.contents c.put.new.out) (g.W.Write.contents c.put.new.out) (g.W.Write.contents c.put.new.out) (codes "refused ") (escaped c.args.name.now) (codes " ") c.in_err-put.ensures.front)
+    (line_first (g.W.Write.contents c.args.out.now) (g.W.Write.contents c.put.new.out) (g.W.Write.contents c.put.new.out) (g.W.Write.contents c.put.new.out) (codes "refused ")
+    (escaped c.args.name.now) (codes " ") c.in_err-put.ensures.front)
 
 pub returns-in_err-write_escaped-clause-front : goal.returns-in_err-write_escaped-clause-front
 returns-in_err-write_escaped-clause-front g c =
     on_err c.from_residual-in_err-write_escaped.result _
-    (line_second (g.W.Write.contents c.args.out.now) (g.W.Write.contents c.put.new.out) (g.W.Write.contents c.write_escaped.new.out) (g.W.Write.contents c.write_escaped.new.out) (codes "refused ") (escaped c.args.name.now) (codes " ") c.in_ok-put.ensures.ok c.in_err-write_escaped.ensures.front)
+    (line_second (g.W.Write.contents c.args.out.now) (g.W.Write.contents c.put.new.out) (g.W.Write.contents c.write_escaped.new.out) (g.W.Write.contents c.write_escaped.new.out) (codes "refused ")
+    (escaped c.args.name.now) (codes " ") c.in_ok-put.ensures.ok c.in_err-write_escaped.ensures.front)
 
 pub returns-clause-front : goal.returns-clause-front
 returns-clause-front g c =
-    line_third (g.W.Write.contents c.args.out.now) (g.W.Write.contents c.put.new.out) (g.W.Write.contents c.write_escaped.new.out) (g.W.Write.contents c.put-2.new.out) (codes "refused ") (escaped c.args.name.now) (codes " ") c.in_ok-put.ensures.ok c.in_ok-write_escaped.ensures.ok
+    line_third (g.W.Write.contents c.args.out.now) (g.W.Write.contents c.put.new.out) (g.W.Write.contents c.write_escaped.new.out) (g.W.Write.contents c.put-2.new.out) (codes "refused ")
+    (escaped c.args.name.now) (codes " ") c.in_ok-put.ensures.ok c.in_ok-write_escaped.ensures.ok
     c.put-2.result c.put-2.ensures.front

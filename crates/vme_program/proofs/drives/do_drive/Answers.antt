@@ -13,4 +13,5 @@ returns-in-Sought g c =
     let new = g.W.Write.contents c.drive_found-found.new.out in
     rw c.answer_of_seeds.ensures
     (subst (λ (choice : Choice). Lent c.args.text.now (Keeps old new) (DoesDrive c.args.edges c.args.version choice old new) (found_answer c.drive_found-found.result)) (sym c.in-Sought.is)
-    (sought_done c.args.text.now c.args.edges c.in-Sought.first c.in-Sought.last c.in-Sought.goal c.args.version c.in-Sought.progress old new c.drive_found-found.result c.drive_found-found.ensures.outcome))
+    (sought_done c.args.text.now c.args.edges c.in-Sought.first c.in-Sought.last c.in-Sought.goal c.args.version c.in-Sought.progress old new c.drive_found-found.result
+    c.drive_found-found.ensures.outcome))

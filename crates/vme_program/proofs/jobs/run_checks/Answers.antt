@@ -20,17 +20,22 @@ returns-in_err-test_plan-clause-done g c =
     let e = err_from_is_err_and c.from_residual.result c.from_residual.ensures.1 in
     let no = c.in_err-test_plan.ensures.fault in
     rw (e.1, e.2, no.2)
-    (unplanned c.args.text.now (ChecksFiles (texts_of c.args.traces.items) (g.W.Write.contents c.args.out.now) (g.W.Write.contents c.args.out.now)) (g.W.Write.contents c.args.out.now) (g.W.Write.contents c.args.out.now) (Stops (OnScenario c.args.scenario (Checks c.args.traces)))
+    (unplanned c.args.text.now (ChecksFiles (texts_of c.args.traces.items) (g.W.Write.contents c.args.out.now) (g.W.Write.contents c.args.out.now)) (g.W.Write.contents c.args.out.now)
+    (g.W.Write.contents c.args.out.now) (Stops (OnScenario c.args.scenario (Checks c.args.traces)))
     (Fails (OnScenario c.args.scenario (Checks c.args.traces)) (g.W.Write.contents c.args.out.now) (g.W.Write.contents c.args.out.now)) c.args.scenario no.0 (Keeps-refl _) no.1)
 
 pub returns-in-Ok-clause-done : goal.returns-in-Ok-clause-done
 returns-in-Ok-clause-done g c =
     let plan = c.in_ok-test_plan.ensures.ok in
-    checks_done c.args.text.now (texts_of c.args.traces.items) (g.W.Write.contents c.args.out.now) (g.W.Write.contents c.check_files.new.out) (Stops (OnScenario c.args.scenario (Checks c.args.traces))) plan
-    (Fails (OnScenario c.args.scenario (Checks c.args.traces)) (g.W.Write.contents c.args.out.now) (g.W.Write.contents c.check_files.new.out)) (λ h. h) c.in-Ok.seen c.status.result ((rw c.deref.ensures.value at c.in-Ok.ensures) plan.0 plan.1 plan.2) c.status.ensures
+    checks_done c.args.text.now (texts_of c.args.traces.items) (g.W.Write.contents c.args.out.now) (g.W.Write.contents c.check_files.new.out)
+    (Stops (OnScenario c.args.scenario (Checks c.args.traces))) plan
+    (Fails (OnScenario c.args.scenario (Checks c.args.traces)) (g.W.Write.contents c.args.out.now) (g.W.Write.contents c.check_files.new.out)) (λ h. h) c.in-Ok.seen c.status.result
+    ((rw c.deref.ensures.value at c.in-Ok.ensures) plan.0 plan.1 plan.2) c.status.ensures
 
 pub returns-clause-done : goal.returns-clause-done
 returns-clause-done g c =
     let plan = c.in_ok-test_plan.ensures.ok in
-    checks_cut c.args.text.now (texts_of c.args.traces.items) (g.W.Write.contents c.args.out.now) (g.W.Write.contents c.check_files.new.out) (Stops (OnScenario c.args.scenario (Checks c.args.traces))) plan
-    (Fails (OnScenario c.args.scenario (Checks c.args.traces)) (g.W.Write.contents c.args.out.now) (g.W.Write.contents c.check_files.new.out)) c.in-Err.fault ((rw c.deref.ensures.value at c.in-Err.ensures) plan.0 plan.1 plan.2)
+    checks_cut c.args.text.now (texts_of c.args.traces.items) (g.W.Write.contents c.args.out.now) (g.W.Write.contents c.check_files.new.out)
+    (Stops (OnScenario c.args.scenario (Checks c.args.traces))) plan
+    (Fails (OnScenario c.args.scenario (Checks c.args.traces)) (g.W.Write.contents c.args.out.now) (g.W.Write.contents c.check_files.new.out)) c.in-Err.fault
+    ((rw c.deref.ensures.value at c.in-Err.ensures) plan.0 plan.1 plan.2)

@@ -10,5 +10,6 @@ returns-clause-done g c =
 
 pub returns-in-Ok-clause-done : goal.returns-in-Ok-clause-done
 returns-in-Ok-clause-done g c =
-    same_found c.args.scenario c.args.trace c.args.other _ (streams None None None None) (streams None None None None) (g.W.Write.contents c.args.out.now) (g.W.Write.contents c.report_comparison.new.out)
+    same_found c.args.scenario c.args.trace c.args.other _ (streams None None None None) (streams None None None None) (g.W.Write.contents c.args.out.now)
+    (g.W.Write.contents c.report_comparison.new.out)
     c.in-Ok.found c.report_comparison.result c.in-Ok.ensures.reads c.report_comparison.ensures.ok c.report_comparison.ensures.front c.report_comparison.ensures.fault

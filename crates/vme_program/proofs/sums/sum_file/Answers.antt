@@ -10,4 +10,5 @@ returns-in_err-input c =
 
 pub returns : goal.returns
 returns c = λ p short is.
-    rw c.answer_of_trace.ensures (file_added c.args.text.now c.args.scenario c.args.trace c.args.sums.now c.add_trace.new.sums None None c.add_trace.result c.add_trace.ensures.adds c.add_trace.ensures.kept p short is)
+    rw c.answer_of_trace.ensures
+    (file_added c.args.text.now c.args.scenario c.args.trace c.args.sums.now c.add_trace.new.sums None None c.add_trace.result c.add_trace.ensures.adds c.add_trace.ensures.kept p short is)

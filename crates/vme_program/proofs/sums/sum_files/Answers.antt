@@ -23,10 +23,12 @@ pub returns-in_err-flush : goal.returns-in_err-flush
 returns-in_err-flush g c =
     let e = err_from_is_err_and c.from_residual-in_err-flush.result c.from_residual-in_err-flush.ensures.1 in
     subst (λ r. SumsAll (texts_of c.args.traces.now) (g.W.Write.contents c.args.out.now) (g.W.Write.contents c.flush.new.out) r c.args.plan.now) (sym (e.1 ∙ ap Err e.2))
-    (flush_cut c.args.plan.now (texts_of c.args.traces.now) (g.W.Write.contents c.args.out.now) (g.W.Write.contents c.add_files.new.out) (g.W.Write.contents c.write_totals.new.out) (g.W.Write.contents c.flush.new.out)
+    (flush_cut c.args.plan.now (texts_of c.args.traces.now) (g.W.Write.contents c.args.out.now) (g.W.Write.contents c.add_files.new.out) (g.W.Write.contents c.write_totals.new.out)
+    (g.W.Write.contents c.flush.new.out)
     c.in_ok-added.added (c.in_ok-added.ensures c.args.plan.now c.requires.0 c.requires.1) c.in_ok-write_totals.ensures.ok c.flush.ensures.kept c.in_err-flush.field-0.0 c.in_err-flush.ensures.fault)
 
 pub returns : goal.returns
 returns g c =
-    sums_written c.args.plan.now (texts_of c.args.traces.now) (g.W.Write.contents c.args.out.now) (g.W.Write.contents c.add_files.new.out) (g.W.Write.contents c.write_totals.new.out) (g.W.Write.contents c.flush.new.out)
+    sums_written c.args.plan.now (texts_of c.args.traces.now) (g.W.Write.contents c.args.out.now) (g.W.Write.contents c.add_files.new.out) (g.W.Write.contents c.write_totals.new.out)
+    (g.W.Write.contents c.flush.new.out)
     c.in_ok-added.added (c.in_ok-added.ensures c.args.plan.now c.requires.0 c.requires.1) c.in_ok-write_totals.ensures.ok c.flush.ensures.kept

@@ -11,4 +11,5 @@ returns-in_err-write_escaped-clause-front g c =
 
 pub returns-clause-front : goal.returns-clause-front
 returns-clause-front g c =
-    two_second (g.W.Write.contents c.args.out.now) (g.W.Write.contents c.write_escaped.new.out) (g.W.Write.contents c.put.new.out) (escaped c.args.name.now) (codes ": illegal\n") c.in_ok-write_escaped.ensures.ok c.put.result c.put.ensures.front
+    two_second (g.W.Write.contents c.args.out.now) (g.W.Write.contents c.write_escaped.new.out) (g.W.Write.contents c.put.new.out) (escaped c.args.name.now)
+    (codes ": illegal\n") c.in_ok-write_escaped.ensures.ok c.put.result c.put.ensures.front

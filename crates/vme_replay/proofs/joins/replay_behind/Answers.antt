@@ -18,7 +18,9 @@ returns-in_err-plan g c =
     let refused = subst (λ (t : List ℕ). IsNoPlan t c.in_err-plan.field-0.0) c.deref.ensures.value c.in_err-plan.ensures.fault in (
       c.args.rest.now ++ unwrap_or (g.R.Read.remaining c.args.input.now) [],
       input_behind c.args.version from _ before c.args.rest.now taken,
-      rw (e.1, e.2) (no_plan_asking before (Keeps _ _) (λ p r. Replays Short p before ((header c.args.version ++ 10 ∷ []) ++ (c.args.rest.now ++ unwrap_or (g.R.Read.remaining c.args.input.now) [])) (streams from (g.R.Read.remaining c.args.input.now) (g.W.Write.contents c.args.out.now) (g.W.Write.contents c.args.out.now)) r) _ (no_plan_of before _ _ (c.into_text-text.ensures before _ held) refused) (Keeps-refl _)),
+      rw (e.1, e.2) (no_plan_asking before (Keeps _ _) (λ p r. Replays Short p before ((header c.args.version ++ 10 ∷ []) ++ (c.args.rest.now ++ unwrap_or (g.R.Read.remaining c.args.input.now) []))
+          (streams from (g.R.Read.remaining c.args.input.now) (g.W.Write.contents c.args.out.now) (g.W.Write.contents c.args.out.now)) r) _
+          (no_plan_of before _ _ (c.into_text-text.ensures before _ held) refused) (Keeps-refl _)),
     )
 
 pub returns-in_err-buffer : goal.returns-in_err-buffer

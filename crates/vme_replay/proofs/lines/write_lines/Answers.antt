@@ -12,5 +12,6 @@ loop-rest-preserved g c = record {
   number = omega arith;
   run =
       lines_put _ _ _ _ _ _ _ _ (handed_on _ _ _ _ _ _ c.loop-rest.invariant.run _ c.in_ok-make_room.ensures.ok)
-      (lines_of_group c.loop-rest.count c.min-many.result c.advance.new.self c.loop-rest.rest.now c.split_at.result.0.now c.split_at.result.1.now (omega arith) c.split_at.ensures.front c.split_at.ensures.back (omega arith)) c.push_lines.ensures;
+      (lines_of_group c.loop-rest.count c.min-many.result c.advance.new.self c.loop-rest.rest.now c.split_at.result.0.now c.split_at.result.1.now
+      (omega arith) c.split_at.ensures.front c.split_at.ensures.back (omega arith)) c.push_lines.ensures;
 }

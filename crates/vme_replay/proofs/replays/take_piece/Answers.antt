@@ -14,6 +14,7 @@ returns-in_err-close-in-Ok-false g c =
     rw (p.1, p.2)
     (inr (
       c.in_err-close-in-Ok-false.ensures.fault,
-      closing_front _ _ _ _ _ _ _ _ _ _ _ (c.in-Ok-false.is ∙ ap (λ b. Ok b) c.in-Ok-false.field-0-test) c.in_ok-write_form.ensures.state (c.from-accepted.ensures ∙ c.len.ensures) c.saturating_sub-refused.ensures
+      closing_front _ _ _ _ _ _ _ _ _ _ _ (c.in-Ok-false.is ∙ ap (λ b. Ok b) c.in-Ok-false.field-0-test) c.in_ok-write_form.ensures.state
+          (c.from-accepted.ensures ∙ c.len.ensures) c.saturating_sub-refused.ensures
           c.in_ok-write_form.ensures.ok c.in_err-close-in-Ok-false.ensures.front,
     ))

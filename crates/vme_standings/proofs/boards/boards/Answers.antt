@@ -17,5 +17,6 @@ returns c s =
 pub loop-slot-preserved : goal.loop-slot-preserved
 loop-slot-preserved c = record {
   accepted = c.loop-slot.invariant.accepted;
-  held = grow (has c.loop-slot.found) (has c.with_if-found.result) (λ (s : ℕ). is_some (board c.args.plan.now s)) c.loop-slot.slot c.has_board.result c.with_if-found.ensures c.loop-slot.invariant.held c.has_board.ensures;
+  held = grow (has c.loop-slot.found) (has c.with_if-found.result)
+      (λ (s : ℕ). is_some (board c.args.plan.now s)) c.loop-slot.slot c.has_board.result c.with_if-found.ensures c.loop-slot.invariant.held c.has_board.ensures;
 }

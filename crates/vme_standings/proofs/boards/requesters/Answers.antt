@@ -17,5 +17,6 @@ returns c s =
 pub loop-slot-preserved : goal.loop-slot-preserved
 loop-slot-preserved c = record {
   accepted = c.loop-slot.invariant.accepted;
-  held = grow (has c.loop-slot.able) (has c.with_if-able.result) (λ (s : ℕ). has_requester c.args.plan.now s) c.loop-slot.slot c.has_requester.result c.with_if-able.ensures c.loop-slot.invariant.held c.has_requester.ensures;
+  held = grow (has c.loop-slot.able) (has c.with_if-able.result)
+      (λ (s : ℕ). has_requester c.args.plan.now s) c.loop-slot.slot c.has_requester.result c.with_if-able.ensures c.loop-slot.invariant.held c.has_requester.ensures;
 }

@@ -18,5 +18,6 @@ returns c s =
 pub loop-slot-preserved : goal.loop-slot-preserved
 loop-slot-preserved c = record {
   accepted = c.loop-slot.invariant.accepted;
-  held = grow (has c.loop-slot.found) (has c.with_if-found.result) (is_follower c.args.plan.now c.args.level c.args.place) c.loop-slot.slot c.is_follower.result c.with_if-found.ensures c.loop-slot.invariant.held c.is_follower.ensures;
+  held = grow (has c.loop-slot.found) (has c.with_if-found.result)
+      (is_follower c.args.plan.now c.args.level c.args.place) c.loop-slot.slot c.is_follower.result c.with_if-found.ensures c.loop-slot.invariant.held c.is_follower.ensures;
 }

@@ -11,7 +11,8 @@ below t k l far = grind (arith, nat_tests)
 
 pub loop-place-preserved : goal.loop-place-preserved
 loop-place-preserved c =
-    grow (has c.loop-place.kept) (has c.with_if-kept.result) (λ t. has c.args.places t && is_so c.args.plan.now c.args.fact (phase_at c.args.row t)) c.loop-place.place c.is_so_at.result c.with_if-kept.ensures c.loop-place.invariant c.is_so_at.ensures
+    grow (has c.loop-place.kept) (has c.with_if-kept.result) (λ t. has c.args.places t && is_so c.args.plan.now c.args.fact
+    (phase_at c.args.row t)) c.loop-place.place c.is_so_at.result c.with_if-kept.ensures c.loop-place.invariant c.is_so_at.ensures
 
 pub returns : goal.returns
 returns c t l =

@@ -17,5 +17,6 @@ returns c s =
 pub loop-board-preserved : goal.loop-board-preserved
 loop-board-preserved c = record {
   accepted = c.loop-board.invariant.accepted;
-  held = grow (has c.loop-board.found) (has c.with_if-found.result) (is_taken c.args.plan.now c.args.requests c.args.phases.now) c.loop-board.board c.is_taken.result c.with_if-found.ensures c.loop-board.invariant.held c.is_taken.ensures;
+  held = grow (has c.loop-board.found) (has c.with_if-found.result)
+      (is_taken c.args.plan.now c.args.requests c.args.phases.now) c.loop-board.board c.is_taken.result c.with_if-found.ensures c.loop-board.invariant.held c.is_taken.ensures;
 }

@@ -11,7 +11,8 @@ returns-then-is_granted c =
     let rest = granting_added _ _ _ _ change none in
     record {
       idle = rest.0;
-      granting = granting_only _ _ (λ t. t == 0) _ _ (is_granted c.args.plan.now c.args.requests c.args.level c.args.phases.now) change none c.just.ensures (sym c.is_granted.ensures ∙ c.if-is_granted.true);
+      granting = granting_only _ _ (λ t. t == 0) _ _ (is_granted c.args.plan.now c.args.requests c.args.level c.args.phases.now) change none c.just.ensures
+          (sym c.is_granted.ensures ∙ c.if-is_granted.true);
       held = rest.1;
       expired = rest.2;
     }

@@ -11,7 +11,8 @@ returns-then-is_passed c =
     let rest = granting_added _ _ _ _ change none in
     record {
       idle = rest.0;
-      granting = granting_only _ _ (λ t. t == c.args.slot) _ _ (is_passed c.args.plan.now c.args.version c.args.level c.args.slot c.args.phases.now) change none c.just.ensures (sym c.is_passed.ensures ∙ c.if-is_passed.true);
+      granting = granting_only _ _ (λ t. t == c.args.slot) _ _ (is_passed c.args.plan.now c.args.version c.args.level c.args.slot c.args.phases.now) change none c.just.ensures
+          (sym c.is_passed.ensures ∙ c.if-is_passed.true);
       held = rest.1;
       expired = rest.2;
     }

@@ -25,7 +25,8 @@ returns c =
     let inv = c.loop-level.invariant in
     let ended : c.loop-level.level ≡ 4 = grind (arith, nat_tests, c.loop-level.auto.level-end, c.loop-level-test.false) in
     record {
-      idle = λ n l. inv.made n (omega (arith, l, ended)) ∙ any_same (has c.releasers-boards.result) (can_release c.args.plan.now c.args.requests c.args.phases.now) c.releasers-boards.ensures (active c.args.plan.now (grant_chain n)) ∙ near_is n l _;
+      idle = λ n l. inv.made n (omega (arith, l, ended)) ∙ any_same (has c.releasers-boards.result) (can_release c.args.plan.now c.args.requests c.args.phases.now) c.releasers-boards.ensures
+          (active c.args.plan.now (grant_chain n)) ∙ near_is n l _;
       granting = inv.granting;
       held = inv.held;
       expired = inv.expired;

@@ -9,7 +9,8 @@ use Rattle.vme_standings.proofs.grants.behind_take.Goals as goal
 
 pub loop-board-preserved : goal.loop-board-preserved
 loop-board-preserved c = record {
-  made = held_step c.loop-board.board _ c.loop-board.behind _ (λ b t. t == 0 && is_taken c.args.plan.now c.args.requests c.args.phases.now b) c.set_held_row.ensures c.loop-board.invariant.made (λ t m. c.row_if.ensures t ∙ turn c.is_taken-is_taken.result (has c.just.result t) _ _ c.is_taken-is_taken.ensures (c.just.ensures t));
+  made = held_step c.loop-board.board _ c.loop-board.behind _ (λ b t. t == 0 && is_taken c.args.plan.now c.args.requests c.args.phases.now b) c.set_held_row.ensures c.loop-board.invariant.made
+      (λ t m. c.row_if.ensures t ∙ turn c.is_taken-is_taken.result (has c.just.result t) _ _ c.is_taken-is_taken.ensures (c.just.ensures t));
   free = free_kept c.loop-board.board _ c.loop-board.behind _ (λ q. false) c.set_held_row.ensures c.loop-board.invariant.free;
 }
 

@@ -17,5 +17,6 @@ returns c s =
 pub loop-slot-preserved : goal.loop-slot-preserved
 loop-slot-preserved c = record {
   accepted = c.loop-slot.invariant.accepted;
-  held = grow (has c.loop-slot.boards) (has c.with_if-boards.result) (is_of_level c.args.plan.now c.args.level) c.loop-slot.slot c.is_of_level.result c.with_if-boards.ensures c.loop-slot.invariant.held c.is_of_level.ensures;
+  held = grow (has c.loop-slot.boards) (has c.with_if-boards.result)
+      (is_of_level c.args.plan.now c.args.level) c.loop-slot.slot c.is_of_level.result c.with_if-boards.ensures c.loop-slot.invariant.held c.is_of_level.ensures;
 }

@@ -8,7 +8,8 @@ use Rattle.vme_standings.proofs.grants.held_behind_rise.Goals as goal
 
 pub loop-board-preserved : goal.loop-board-preserved
 loop-board-preserved c = record {
-  made = held_step c.loop-board.board _ c.loop-board.behind _ (λ b t. is_let_go c.args.plan.now c.args.level c.args.place c.args.phases.now b && has c.args.next t) c.set_held_row.ensures c.loop-board.invariant.made (λ t m. c.row_if.ensures t ∙ ap (λ x. x && has c.args.next t) c.is_let_go-is_let_go.ensures);
+  made = held_step c.loop-board.board _ c.loop-board.behind _ (λ b t. is_let_go c.args.plan.now c.args.level c.args.place c.args.phases.now b
+      && has c.args.next t) c.set_held_row.ensures c.loop-board.invariant.made (λ t m. c.row_if.ensures t ∙ ap (λ x. x && has c.args.next t) c.is_let_go-is_let_go.ensures);
   free = free_kept c.loop-board.board _ c.loop-board.behind _ (λ q. false) c.set_held_row.ensures c.loop-board.invariant.free;
 }
 

@@ -10,7 +10,8 @@ use Rattle.vme_standings.proofs.grants.of_level.Goals as goal
 pub loop-slot-preserved : goal.loop-slot-preserved
 loop-slot-preserved c = record {
   accepted = c.loop-slot.invariant.accepted;
-  held = grow (has c.loop-slot.found) (has c.with_if-found.result) (λ s. is_of_level c.args.plan.now c.args.level s && has c.args.slots s) c.loop-slot.slot c.both-is_both.result c.with_if-found.ensures c.loop-slot.invariant.held
+  held = grow (has c.loop-slot.found) (has c.with_if-found.result) (λ s. is_of_level c.args.plan.now c.args.level s
+      && has c.args.slots s) c.loop-slot.slot c.both-is_both.result c.with_if-found.ensures c.loop-slot.invariant.held
       (c.both-is_both.ensures ∙ same_both _ _ _ _ c.is_of_level-is_of_level.ensures c.has-is_held.ensures);
 }
 

@@ -17,5 +17,6 @@ returns c s =
 pub loop-board-preserved : goal.loop-board-preserved
 loop-board-preserved c = record {
   accepted = c.loop-board.invariant.accepted;
-  held = grow (has c.loop-board.found) (has c.with_if-found.result) (can_release c.args.plan.now c.args.requests c.args.phases.now) c.loop-board.board c.can_release.result c.with_if-found.ensures c.loop-board.invariant.held c.can_release.ensures;
+  held = grow (has c.loop-board.found) (has c.with_if-found.result)
+      (can_release c.args.plan.now c.args.requests c.args.phases.now) c.loop-board.board c.can_release.result c.with_if-found.ensures c.loop-board.invariant.held c.can_release.ensures;
 }

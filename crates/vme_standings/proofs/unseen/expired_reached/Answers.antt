@@ -18,11 +18,13 @@ walk-requires c t h =
 pub returns-then-is_some : goal.returns-then-is_some
 returns-then-is_some c =
     let p = c.args.plan.now in
-    walks_alike (has c.firsts-from.result) (is_first p c.args.version c.args.probed.now c.args.level c.args.lasts c.args.phases.now) (has c.expired_rises.result) (λ t. is_two c.args.version && rises_unseen p c.args.probed.now c.args.level t) (has c.walk.result) (place_before p c.args.level)
+    walks_alike (has c.firsts-from.result) (is_first p c.args.version c.args.probed.now c.args.level c.args.lasts c.args.phases.now) (has c.expired_rises.result)
+    (λ t. is_two c.args.version && rises_unseen p c.args.probed.now c.args.level t) (has c.walk.result) (place_before p c.args.level)
     c.firsts-from.ensures c.expired_rises.ensures c.walk.ensures
 
 pub returns : goal.returns
 returns c =
     let p = c.args.plan.now in
-    nothing (has c.firsts-from.result) (is_first p c.args.version c.args.probed.now c.args.level c.args.lasts c.args.phases.now) (λ t. is_two c.args.version && rises_unseen p c.args.probed.now c.args.level t) (place_before p c.args.level) c.firsts-from.ensures
+    nothing (has c.firsts-from.result) (is_first p c.args.version c.args.probed.now c.args.level c.args.lasts c.args.phases.now)
+    (λ t. is_two c.args.version && rises_unseen p c.args.probed.now c.args.level t) (place_before p c.args.level) c.firsts-from.ensures
     (none_there c.firsts-from.result c.is_some-is_some.result c.if-is_some.false c.is_some-is_some.ensures.none)

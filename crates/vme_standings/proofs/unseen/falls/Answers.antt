@@ -21,5 +21,6 @@ returns c s =
 pub loop-slot-preserved : goal.loop-slot-preserved
 loop-slot-preserved c = record {
   accepted = c.loop-slot.invariant.accepted;
-  held = grow (has c.loop-slot.found) (has c.with_if-found.result) (falls_unseen c.args.plan.now c.args.version c.args.probed.now c.args.level) c.loop-slot.slot c.falls_unseen.result c.with_if-found.ensures c.loop-slot.invariant.held c.falls_unseen.ensures;
+  held = grow (has c.loop-slot.found) (has c.with_if-found.result)
+      (falls_unseen c.args.plan.now c.args.version c.args.probed.now c.args.level) c.loop-slot.slot c.falls_unseen.result c.with_if-found.ensures c.loop-slot.invariant.held c.falls_unseen.ensures;
 }

@@ -17,11 +17,13 @@ walk-requires c t h =
 pub returns-then-is_some : goal.returns-then-is_some
 returns-then-is_some c =
     let p = c.args.plan.now in
-    walks_alike (has c.lasts-from.result) (is_last p c.args.requests c.args.probed.now c.args.level c.args.phases.now) (has c.falls.result) (falls_unseen p c.args.version c.args.probed.now c.args.level) (has c.walk.result) (place_before p c.args.level)
+    walks_alike (has c.lasts-from.result) (is_last p c.args.requests c.args.probed.now c.args.level c.args.phases.now) (has c.falls.result)
+    (falls_unseen p c.args.version c.args.probed.now c.args.level) (has c.walk.result) (place_before p c.args.level)
     c.lasts-from.ensures c.falls.ensures c.walk.ensures
 
 pub returns : goal.returns
 returns c =
     let p = c.args.plan.now in
-    nothing (has c.lasts-from.result) (is_last p c.args.requests c.args.probed.now c.args.level c.args.phases.now) (falls_unseen p c.args.version c.args.probed.now c.args.level) (place_before p c.args.level) c.lasts-from.ensures
+    nothing (has c.lasts-from.result) (is_last p c.args.requests c.args.probed.now c.args.level c.args.phases.now) (falls_unseen p c.args.version c.args.probed.now c.args.level)
+    (place_before p c.args.level) c.lasts-from.ensures
     (none_there c.lasts-from.result c.is_some-is_some.result c.if-is_some.false c.is_some-is_some.ensures.none)

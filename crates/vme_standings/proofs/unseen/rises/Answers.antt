@@ -19,4 +19,5 @@ returns c s =
 
 pub loop-slot-preserved : goal.loop-slot-preserved
 loop-slot-preserved c =
-    grow (has c.loop-slot.found) (has c.with_if-found.result) (rises_unseen c.args.plan.now c.args.probed.now c.args.level) c.loop-slot.slot c.rises_unseen.result c.with_if-found.ensures c.loop-slot.invariant c.rises_unseen.ensures
+    grow (has c.loop-slot.found) (has c.with_if-found.result)
+    (rises_unseen c.args.plan.now c.args.probed.now c.args.level) c.loop-slot.slot c.rises_unseen.result c.with_if-found.ensures c.loop-slot.invariant c.rises_unseen.ensures

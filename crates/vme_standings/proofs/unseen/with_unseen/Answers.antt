@@ -49,7 +49,8 @@ returns-then-is_closed-clause-closed c q r row e h =
 pub returns-then-is_closed-clause-only : goal.returns-then-is_closed-clause-only
 returns-then-is_closed-clause-only c q row h =
     let inv = c.loop-round.invariant in
-    round_only c.args.plan.now inv.accepted c.args.version c.args.requests c.args.probed.now c.args.phases.now c.loop-round.reached c.round-next.result c.round-next.ensures (inv.only inv.accepted) q (rows_of q row) h
+    round_only c.args.plan.now inv.accepted c.args.version c.args.requests c.args.probed.now c.args.phases.now c.loop-round.reached c.round-next.result c.round-next.ensures (inv.only inv.accepted) q
+    (rows_of q row) h
 
 -- each round but the last adds an idle phase, so there is none left for a fifth
 pub returns-clause-kept : goal.returns-clause-kept

@@ -21,20 +21,27 @@ loop-event-preserved c =
         | then-times-index-eq0 w ↦
             let is : get_or times (event_index v) 0 ≡ 0 = search rules in
             let none : (get_or times (event_index v) 0 == 0) ≡ true = ap (λ m. m == 0) is in
-            let known = ap (λ l. l.items) w.words-is ∙ w.push-then-times-index-eq0.ensures.items ∙ ap (λ l. w.push.new.line.items ++ l) (w.as_bytes.ensures.value ∙ w.name.ensures.text) ∙ ap (λ l. l ++ event_text v) w.push.ensures.items ∙ append_assoc old (codes " ") (event_text v) in
-            word_more (λ v. codes " " ++ event_text v) (λ v. get_or times (event_index v) 0 == 0) (take i all_events) v old c.if-times-index-eq0.words.items true none c.loop-event.invariant.words known
+            let known = ap (λ l. l.items) w.words-is ∙ w.push-then-times-index-eq0.ensures.items ∙ ap (λ l. w.push.new.line.items ++ l) (w.as_bytes.ensures.value ∙ w.name.ensures.text)
+            ∙ ap (λ l. l ++ event_text v) w.push.ensures.items ∙ append_assoc old (codes " ") (event_text v) in
+            word_more (λ v. codes " " ++ event_text v) (λ v. get_or times (event_index v) 0 == 0)
+            (take i all_events) v old c.if-times-index-eq0.words.items true none c.loop-event.invariant.words known
             ∙ ap (λ l. flat_map (λ v. codes " " ++ event_text v) (filter (λ v. get_or times (event_index v) 0 == 0) l)) (sym (take_more all_events i event.GrantPassed c.loop-event-test.true))
         | else-times-index-eq0 w ↦
             let other : get_or times (event_index v) 0 ≢ 0 = search rules in
             let some : (get_or times (event_index v) 0 == 0) ≡ false = ne_eqb (get_or times (event_index v) 0) 0 other in
             let known = ap (λ l. l.items) w.words-is ∙ sym (append-nil old) in
-            word_more (λ v. codes " " ++ event_text v) (λ v. get_or times (event_index v) 0 == 0) (take i all_events) v old c.if-times-index-eq0.words.items false some c.loop-event.invariant.words known
+            word_more (λ v. codes " " ++ event_text v) (λ v. get_or times (event_index v) 0 == 0)
+            (take i all_events) v old c.if-times-index-eq0.words.items false some c.loop-event.invariant.words known
             ∙ ap (λ l. flat_map (λ v. codes " " ++ event_text v) (filter (λ v. get_or times (event_index v) 0 == 0) l)) (sym (take_more all_events i event.GrantPassed c.loop-event-test.true))
       ];
       room =
           let before = c.loop-event.invariant.room in
           elim c.if-times-index-eq0.branch [
-            | then-times-index-eq0 w ↦ let first = w.push.ensures.len in let second = rw w.as_bytes.ensures.value at w.push-then-times-index-eq0.ensures.len in let short = w.name.ensures.short in rw w.words-is (omega (arith, before, first, second, short))
+            | then-times-index-eq0 w ↦
+                let first = w.push.ensures.len in
+                let second = rw w.as_bytes.ensures.value at w.push-then-times-index-eq0.ensures.len in
+                let short = w.name.ensures.short in
+                rw w.words-is (omega (arith, before, first, second, short))
             | else-times-index-eq0 w ↦ rw w.words-is (omega (arith, before))
           ];
     }
@@ -42,4 +49,5 @@ loop-event-preserved c =
 pub returns-clause-words : goal.returns-clause-words
 unfolding all_events
 returns-clause-words c =
-    c.loop-event.invariant.words ∙ ap (λ l. flat_map (λ v. codes " " ++ event_text v) (filter (λ v. get_or c.args.times.now (event_index v) 0 == 0) l)) (take_all c.loop-event.event-index all_events c.loop-event-test.false)
+    c.loop-event.invariant.words ∙ ap (λ l. flat_map (λ v. codes " " ++ event_text v) (filter (λ v. get_or c.args.times.now (event_index v) 0 == 0) l))
+    (take_all c.loop-event.event-index all_events c.loop-event-test.false)

@@ -8,8 +8,10 @@ use Rattle.vme_summary.proofs.lines.sums_line.Goals as goal
 
 pub returns-in-NeverAccepted : goal.returns-in-NeverAccepted
 returns-in-NeverAccepted c = λ ts is.
-    rw c.in-NeverAccepted.is (c.never_line.ensures ∙ ap (never_text (codes "never accepted")) (c.rule_words.ensures.words ∙ same_rules (λ k. get_or c.args.sums.now.passed k 0) (λ k. total (passed_by k) ts) is.passed))
+    rw c.in-NeverAccepted.is (c.never_line.ensures ∙ ap (never_text (codes "never accepted"))
+    (c.rule_words.ensures.words ∙ same_rules (λ k. get_or c.args.sums.now.passed k 0) (λ k. total (passed_by k) ts) is.passed))
 
 pub returns-in-NeverMet : goal.returns-in-NeverMet
 returns-in-NeverMet c = λ ts is.
-    rw c.in-NeverMet.is (c.never_line-in-NeverMet.ensures ∙ ap (never_text (codes "never met")) (c.event_words.ensures.words ∙ same_events (λ v. get_or c.args.sums.now.met (event_index v) 0) (λ v. total (times_met v) ts) is.met))
+    rw c.in-NeverMet.is (c.never_line-in-NeverMet.ensures ∙ ap (never_text (codes "never met"))
+    (c.event_words.ensures.words ∙ same_events (λ v. get_or c.args.sums.now.met (event_index v) 0) (λ v. total (times_met v) ts) is.met))

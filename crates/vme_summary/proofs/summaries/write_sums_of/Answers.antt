@@ -12,7 +12,8 @@ loop-topic-init g c = λ ts is. none_written (sums_line c.args.plan.now ts) c.ar
 
 pub returns-in_err-put-clause-front : goal.returns-in_err-put-clause-front
 returns-in_err-put-clause-front g c =
-    let front : OfSums c.args.sums.now (λ ts. AppendsFront (g.W.Write.contents c.args.out.now) (g.W.Write.contents c.put.new.out) (flat_map (sums_line c.args.plan.now ts) c.args.topics.now)) = λ ts is.
+    let front : OfSums c.args.sums.now (λ ts. AppendsFront (g.W.Write.contents c.args.out.now) (g.W.Write.contents c.put.new.out) (flat_map (sums_line c.args.plan.now ts) c.args.topics.now)) =
+    λ ts is.
     front_of_one (sums_line c.args.plan.now ts) c.args.topics.now _ _ _ c.loop-topic.topic-index _ _ (omega arith)
     (c.as_slice.ensures.value ∙ c.sums_line.ensures ts is)
     (c.loop-topic.invariant ts is) c.in_err-put.ensures.front in

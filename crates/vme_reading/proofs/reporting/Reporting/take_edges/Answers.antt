@@ -4,7 +4,7 @@ use Rattle.std.proofs.lemmas.Result.{err_from_is_err_and}
 use Rattle.vme_model.specs.declared.signals.Edge.{Edge}
 use Rattle.vme_reading.specs.Reporting.{HasWritten}
 use Rattle.vme_reading.proofs.ReportedEdges.{stops_among}
-use Rattle.vme_reading.proofs.SoughtEdges.{next_list}
+use Rattle.vme_reading.proofs.KeptEdges.{next_list}
 use Rattle.vme_reading.proofs.reporting.Reporting.take_edges.Goals as goal
 
 pub loop-edge-preserved : goal.loop-edge-preserved

@@ -8,7 +8,8 @@ pub returns-clause-text : goal.returns-clause-text
 returns-clause-text c =
     let whole : c.self.inside.first + 24 - c.self.inside.first ≡ 24 = omega arith in
     spelled_with _ _ _ _ c.self.invariant _ c.requires.least c.requires.most _ (omega arith) c.requires.small c.args.text.now c.append_line.new.self (take c.args.size c.args.tail)
-    (c.append_line.ensures ∙ ap (λ k. c.args.text.now ++ (take (20 - c.self.inside.first) (take k (drop c.self.inside.first c.self.inside.line)) ++ (c.args.digit ∷ take c.args.size c.args.tail))) whole)
+    (c.append_line.ensures ∙ ap (λ k. c.args.text.now ++ (take (20 - c.self.inside.first) (take k (drop c.self.inside.first c.self.inside.line))
+    ++ (c.args.digit ∷ take c.args.size c.args.tail))) whole)
 
 pub returns-clause-short : goal.returns-clause-short
 returns-clause-short c =

@@ -28,7 +28,8 @@ keep-requires-in-loop-number c =
 
 pub loop-number-preserved : goal.loop-number-preserved
 loop-number-preserved c =
-    one_filled c.args.plan.now c.args.probed.now c.args.start.now c.args.sample.now c.numbered-places.result c.loop-number.number c.behind-known.result _ _ c.numbered-places.ensures c.loop-number.auto.number c.behind-known.ensures c.keep-in-loop-number.ensures c.loop-number.invariant
+    one_filled c.args.plan.now c.args.probed.now c.args.start.now c.args.sample.now c.numbered-places.result c.loop-number.number c.behind-known.result _ _
+    c.numbered-places.ensures c.loop-number.auto.number c.behind-known.ensures c.keep-in-loop-number.ensures c.loop-number.invariant
 
 pub returns : goal.returns
 returns c =

@@ -24,8 +24,10 @@ loop-number-preserved c =
     let old = c.loop-number.furthest in
     let here = c.numbered-places.result in
     elim c.if-is_farther.branch [
-      | then-is_farther w ↦ subst (IsBest known (k + 1)) (sym w.furthest-is) (farther_best known k old here c.loop-number.invariant c.numbered-places.ensures (c.is_farther.ensures.farther w.if-is_farther.true))
-      | else-is_farther w ↦ subst (IsBest known (k + 1)) (sym w.furthest-is) (same_best known k old here c.loop-number.invariant c.numbered-places.ensures (λ f. never c.is_farther.result (c.is_farther.ensures.not f) w.if-is_farther.false))
+      | then-is_farther w ↦ subst (IsBest known (k + 1)) (sym w.furthest-is) (farther_best known k old here c.loop-number.invariant c.numbered-places.ensures
+          (c.is_farther.ensures.farther w.if-is_farther.true))
+      | else-is_farther w ↦ subst (IsBest known (k + 1)) (sym w.furthest-is) (same_best known k old here c.loop-number.invariant c.numbered-places.ensures
+          (λ f. never c.is_farther.result (c.is_farther.ensures.not f) w.if-is_farther.false))
     ]
 
 pub returns : goal.returns

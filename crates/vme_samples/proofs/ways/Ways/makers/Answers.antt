@@ -22,7 +22,8 @@ loop-back-preserved c =
             others = c.set_reaching.ensures.others;
           })
           c.is_either-is_reaching.ensures
-          (subst (λ (k : Known). AreNoted c.args.plan.now c.args.probed.now c.args.sample.now k c.args.goal c.loop-back.self.reaching.items c.numbered-places.result (length c.args.sample.now) c.loop-back.makers c.note_next-is_some.new.makers c.note_next-is_some.result) (ap (λ v. v.items) c.loop-back.invariant.known) c.note_next-is_some.ensures)
+          (subst (λ (k : Known). AreNoted c.args.plan.now c.args.probed.now c.args.sample.now k c.args.goal c.loop-back.self.reaching.items c.numbered-places.result
+          (length c.args.sample.now) c.loop-back.makers c.note_next-is_some.new.makers c.note_next-is_some.result) (ap (λ v. v.items) c.loop-back.invariant.known) c.note_next-is_some.ensures)
           c.loop-back.invariant.done;
     }
 
@@ -31,4 +32,5 @@ returns-clause-makers c =
     let end = c.number-back-end.ensures in
     let l = c.loop-back-test.false in
     let m = c.loop-back.auto.back-end in
-    all_done c.args.plan.now c.args.probed.now c.args.sample.now c.args.self.now.known.items c.args.goal c.loop-back.self.reaching.items c.loop-back.back (by_at c.loop-back.makers) (omega (arith, end, l, m)) c.loop-back.invariant.done
+    all_done c.args.plan.now c.args.probed.now c.args.sample.now c.args.self.now.known.items c.args.goal c.loop-back.self.reaching.items c.loop-back.back (by_at c.loop-back.makers)
+    (omega (arith, end, l, m)) c.loop-back.invariant.done

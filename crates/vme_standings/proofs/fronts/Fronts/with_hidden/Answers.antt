@@ -26,7 +26,8 @@ loop-slot-preserved c =
             ap (λ (x : SlotSet). has x 0) w.ends-is ∙ w.with-ends.ensures.others 0 ne ∙ c.loop-slot.invariant.head;
         below =
             subst (λ (x : SlotSet). Walked (has c.args.self.ends) (has c.both-movers.result) (input_place c.args.plan.now) (has x) (c.loop-slot.slot + 1)) (sym w.ends-is)
-            (walked_on (has c.args.self.ends) (has c.both-movers.result) (input_place c.args.plan.now) (from_below c.args.plan.now) c.loop-slot.slot positive (has c.loop-slot.ends) (has w.with-ends.result)
+            (walked_on (has c.args.self.ends) (has c.both-movers.result) (input_place c.args.plan.now) (from_below c.args.plan.now) c.loop-slot.slot positive (has c.loop-slot.ends)
+            (has w.with-ends.result)
             c.loop-slot.invariant.below (sym c.may_move.ensures ∙ w.if-may_move.true) w.with-ends.ensures.same w.with-ends.ensures.others);
         above = λ s from far.
             let ne : s ≢ c.loop-slot.slot = omega arith in

@@ -16,8 +16,10 @@ loop-level-preserved c =
     (λ c' i l f. PassesLevel (λ q. has_phase one q || has_phase two q) c' i l f)
     (record {
       idle = c.either-is_idle.ensures ∙ ap (λ x. x || c.is_idle_at-in-loop-level.result) c.is_idle_at.ensures ∙ ap (λ x. has_phase one (Idle n) || x) c.is_idle_at-in-loop-level.ensures;
-      granting = λ t l. c.or-lasts.ensures t ∙ ap (λ r. has r t || has c.granting_row-in-loop-level.result t) c.granting_row.ensures ∙ ap (λ r. has_phase one (Granting n t) || has r t) c.granting_row-in-loop-level.ensures;
-      expired = λ t l. c.or-firsts.ensures t ∙ ap (λ r. has r t || has c.expired_row-in-loop-level.result t) c.expired_row.ensures ∙ ap (λ r. has_phase one (Expired n t) || has r t) c.expired_row-in-loop-level.ensures;
+      granting = λ t l. c.or-lasts.ensures t ∙ ap (λ r. has r t || has c.granting_row-in-loop-level.result t) c.granting_row.ensures
+          ∙ ap (λ r. has_phase one (Granting n t) || has r t) c.granting_row-in-loop-level.ensures;
+      expired = λ t l. c.or-firsts.ensures t ∙ ap (λ r. has r t || has c.expired_row-in-loop-level.result t) c.expired_row.ensures
+          ∙ ap (λ r. has_phase one (Expired n t) || has r t) c.expired_row-in-loop-level.ensures;
     })
     c.loop-level.invariant
 

@@ -8,7 +8,8 @@ use Rattle.vme_standings.proofs.phases.GrantPhases.held_by.Goals as goal
 
 pub loop-board-preserved : goal.loop-board-preserved
 loop-board-preserved c = record {
-  made = held_step c.loop-board.board _ c.loop-board.kept _ (λ b t. has c.args.boards b && has (held_row c.args.self.now b) t) c.set_held_row.ensures c.loop-board.invariant.made (λ t m. c.row_if.ensures t ∙ ap (λ x. x && has c.held_row.result t) c.has.ensures ∙ ap (λ r. has c.args.boards c.loop-board.board && has r t) c.held_row.ensures);
+  made = held_step c.loop-board.board _ c.loop-board.kept _ (λ b t. has c.args.boards b && has (held_row c.args.self.now b) t) c.set_held_row.ensures c.loop-board.invariant.made
+      (λ t m. c.row_if.ensures t ∙ ap (λ x. x && has c.held_row.result t) c.has.ensures ∙ ap (λ r. has c.args.boards c.loop-board.board && has r t) c.held_row.ensures);
   free = free_kept c.loop-board.board _ c.loop-board.kept _ (λ q. false) c.set_held_row.ensures c.loop-board.invariant.free;
 }
 

@@ -7,10 +7,12 @@ use Rattle.vme_standings.proofs.phases.GrantPhases.holders.Goals as goal
 
 pub loop-board-preserved : goal.loop-board-preserved
 loop-board-preserved c = record {
-  some = grow_some (has c.loop-board.holders) (has c.with_if-holders.result) (λ b. (b < 22) × ((first : ℕ) × (has (held_row c.args.self.now b) first ≡ true))) c.loop-board.board c.is_some.result c.with_if-holders.ensures
+  some = grow_some (has c.loop-board.holders) (has c.with_if-holders.result) (λ b. (b < 22)
+      × ((first : ℕ) × (has (held_row c.args.self.now b) first ≡ true))) c.loop-board.board c.is_some.result c.with_if-holders.ensures
       c.loop-board.invariant.some
       (λ h. let w = c.is_some.ensures.some h in (grind (arith, nat_tests, c.loop-board-test.true), (w.0, ap (λ r. has r w.0) (sym c.held_row.ensures) ∙ w.1)));
-  all = grow_all (has c.loop-board.holders) (has c.with_if-holders.result) (λ b. (first : ℕ) × (has (held_row c.args.self.now b) first ≡ true)) c.loop-board.board c.is_some.result c.with_if-holders.ensures
+  all = grow_all (has c.loop-board.holders) (has c.with_if-holders.result) (λ b. (first : ℕ)
+      × (has (held_row c.args.self.now b) first ≡ true)) c.loop-board.board c.is_some.result c.with_if-holders.ensures
       c.loop-board.invariant.all
       (λ w. c.is_some.ensures.none w.0 (ap (λ r. has r w.0) c.held_row.ensures ∙ w.1));
 }

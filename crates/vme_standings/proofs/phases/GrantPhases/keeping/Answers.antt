@@ -13,9 +13,11 @@ loop-board-preserved c =
     let p = c.args.plan.now in
     let k = c.loop-board.board in
     record {
-      made = held_step k c.row_where-row.result c.loop-board.kept c.set_held_row.new.self (λ b t. has_phase c.args.self.now (Held b t) && is_so p c.args.fact (Held b t)) c.set_held_row.ensures c.loop-board.invariant.made
+      made = held_step k c.row_where-row.result c.loop-board.kept c.set_held_row.new.self (λ b t. has_phase c.args.self.now (Held b t)
+          && is_so p c.args.fact (Held b t)) c.set_held_row.ensures c.loop-board.invariant.made
           (λ t m. c.row_where-row.ensures t m ∙ ap (λ r. has r t && is_so p c.args.fact (Held k t)) c.held_row.ensures);
-      free = free_kept k c.row_where-row.result c.loop-board.kept c.set_held_row.new.self (λ q. has_phase c.args.self.now q && is_so p c.args.fact q) c.set_held_row.ensures c.loop-board.invariant.free;
+      free = free_kept k c.row_where-row.result c.loop-board.kept c.set_held_row.new.self (λ q. has_phase c.args.self.now q
+          && is_so p c.args.fact q) c.set_held_row.ensures c.loop-board.invariant.free;
     }
 
 pub returns : goal.returns

@@ -28,5 +28,6 @@ returns-clause-all c q table can =
     let may = is_possible p c.args.version c.args.requests in
     let all = in_table c.all.result is_in_table c.all.ensures q table ∙ table in
     let first = in_table c.keeping.result (λ q. has_phase c.all.result q && may q) c.keeping.ensures q table ∙ both (has_phase c.all.result q) (may q) all can.possible in
-    let second = in_table c.keeping-2.result (λ q. has_phase c.keeping.result q && busy q) c.keeping-2.ensures q table ∙ both (has_phase c.keeping.result q) (busy q) first (c.seen_busy.ensures p q ∙ is_alike c.args.is_busy (is_held q) can.bbsy) in
+    let second = in_table c.keeping-2.result (λ q. has_phase c.keeping.result q && busy q) c.keeping-2.ensures q table
+    ∙ both (has_phase c.keeping.result q) (busy q) first (c.seen_busy.ensures p q ∙ is_alike c.args.is_busy (is_held q) can.bbsy) in
     c.showing.ensures.all q table second can.shown

@@ -23,7 +23,8 @@ loop-level-preserved c =
     let n = c.loop-level.level in
     let p = c.args.plan.now in
     kept_more (ShowsChain p c.args.probed.now c.args.low.now) n c.args.self.now c.loop-level.shown c.showing_chain-shown.result c.loop-level.invariant
-    (rows_are p n c.args.probed.now c.args.low.now c.loop-level.shown c.showing_chain-shown.result c.row_of.result c.row_of-in-loop-level.result c.row_of.ensures c.row_of-in-loop-level.ensures c.showing_chain-shown.ensures)
+    (rows_are p n c.args.probed.now c.args.low.now c.loop-level.shown c.showing_chain-shown.result c.row_of.result c.row_of-in-loop-level.result
+    c.row_of.ensures c.row_of-in-loop-level.ensures c.showing_chain-shown.ensures)
 
 pub returns : goal.returns
 returns c =

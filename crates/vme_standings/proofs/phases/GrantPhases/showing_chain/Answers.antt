@@ -9,7 +9,8 @@ loop-place-init c = kept_all (ShowsAt c.args.plan.now c.args.level c.args.probed
 
 pub loop-place-preserved : goal.loop-place-preserved
 loop-place-preserved c =
-    kept_more (ShowsAt c.args.plan.now c.args.level c.args.probed c.args.low) c.loop-place.place c.args.self.now c.loop-place.shown c.showing_segment-shown.result c.loop-place.invariant c.showing_segment-shown.ensures
+    kept_more (ShowsAt c.args.plan.now c.args.level c.args.probed c.args.low) c.loop-place.place c.args.self.now c.loop-place.shown
+    c.showing_segment-shown.result c.loop-place.invariant c.showing_segment-shown.ensures
 
 pub returns : goal.returns
 returns c =

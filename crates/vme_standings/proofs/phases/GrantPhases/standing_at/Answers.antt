@@ -15,7 +15,8 @@ loop-slot-preserved c =
     let n = c.args.level in
     record {
       accepted = c.loop-slot.invariant.accepted;
-      held = grow (has c.loop-slot.boards) (has c.with_if-boards.result) (λ s. is_of_level p n s && has_phase c.args.self.now (Granting n (place_before p n s))) c.loop-slot.slot c.is_standing_at.result c.with_if-boards.ensures c.loop-slot.invariant.held c.is_standing_at.ensures;
+      held = grow (has c.loop-slot.boards) (has c.with_if-boards.result) (λ s. is_of_level p n s
+          && has_phase c.args.self.now (Granting n (place_before p n s))) c.loop-slot.slot c.is_standing_at.result c.with_if-boards.ensures c.loop-slot.invariant.held c.is_standing_at.ensures;
     }
 
 pub returns : goal.returns

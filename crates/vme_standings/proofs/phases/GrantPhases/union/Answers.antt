@@ -11,9 +11,12 @@ pub loop-board-preserved : goal.loop-board-preserved
 loop-board-preserved c =
     let k = c.loop-board.board in
     record {
-      made = held_step k c.or-firsts.result c.loop-board.union c.set_held_row.new.self (λ b t. has_phase c.args.self.now (Held b t) || has_phase c.args.other.now (Held b t)) c.set_held_row.ensures c.loop-board.invariant.made
-          (λ t m. c.or-firsts.ensures t ∙ ap (λ r. has r t || has c.held_row-in-loop-board.result t) c.held_row.ensures ∙ ap (λ r. has_phase c.args.self.now (Held k t) || has r t) c.held_row-in-loop-board.ensures);
-      free = free_kept k c.or-firsts.result c.loop-board.union c.set_held_row.new.self (λ q. has_phase c.args.self.now q || has_phase c.args.other.now q) c.set_held_row.ensures c.loop-board.invariant.free;
+      made = held_step k c.or-firsts.result c.loop-board.union c.set_held_row.new.self (λ b t. has_phase c.args.self.now (Held b t)
+          || has_phase c.args.other.now (Held b t)) c.set_held_row.ensures c.loop-board.invariant.made
+          (λ t m. c.or-firsts.ensures t ∙ ap (λ r. has r t || has c.held_row-in-loop-board.result t) c.held_row.ensures
+          ∙ ap (λ r. has_phase c.args.self.now (Held k t) || has r t) c.held_row-in-loop-board.ensures);
+      free = free_kept k c.or-firsts.result c.loop-board.union c.set_held_row.new.self (λ q. has_phase c.args.self.now q
+          || has_phase c.args.other.now q) c.set_held_row.ensures c.loop-board.invariant.free;
     }
 
 pub returns : goal.returns

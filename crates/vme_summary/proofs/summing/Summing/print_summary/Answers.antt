@@ -14,7 +14,8 @@ use Rattle.vme_summary.proofs.summing.Summing.print_summary.Goals as goal
 pub returns-in_err-write_summary-clause-front : goal.returns-in_err-write_summary-clause-front
 returns-in_err-write_summary-clause-front g c =
     on_err c.from_residual.result _ (λ p v es is.
-    subst (λ (q : Plan). AppendsFront (g.W.Write.contents c.args.out.now) (g.W.Write.contents c.write_summary.new.out) (summary_text q (answered (bench p v) es))) (c.plan.ensures ∙ plan_of p v es _ is)
+    subst (λ (q : Plan). AppendsFront (g.W.Write.contents c.args.out.now) (g.W.Write.contents c.write_summary.new.out) (summary_text q (answered (bench p v) es)))
+    (c.plan.ensures ∙ plan_of p v es _ is)
     (c.in_err-write_summary.ensures.front (answered (bench p v) es) is.tally))
 
 pub returns-in_err-flush-clause-front : goal.returns-in_err-flush-clause-front

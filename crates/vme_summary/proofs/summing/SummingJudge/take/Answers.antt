@@ -16,4 +16,5 @@ returns-in_ok-print_summary-in-Ok-false-clause-takes g c =
     λ task p v es old h.
     let all = es ++ c.args.edges.now in
     let is = c.take_edges.ensures.sum p v es h.1 in
-    sums_now p v all _ old _ _ h.0 _ (c.in-Ok-false.is ∙ ap (λ b. Ok b) c.in-Ok-false.field-0-test) (c.in_ok-print_summary-in-Ok-false.ensures.status p v all is) (c.in_ok-print_summary-in-Ok-false.ensures.ok p v all is)
+    sums_now p v all _ old _ _ h.0 _ (c.in-Ok-false.is ∙ ap (λ b. Ok b) c.in-Ok-false.field-0-test) (c.in_ok-print_summary-in-Ok-false.ensures.status p v all is)
+    (c.in_ok-print_summary-in-Ok-false.ensures.ok p v all is)
