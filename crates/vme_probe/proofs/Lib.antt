@@ -8,6 +8,26 @@ pub mod Rising
 pub mod Requesting
 -- what stands in the way of AS*, DS*, DTACK* and BERR*: `laws`
 pub mod Cycling
+-- what conditions that a bus meets leave of what covers it: `condition_laws`
+pub mod LeftBy
+-- what a condition of a rule that holds says of the guard: `condition_laws`
+pub mod MetGuards
+-- the conditions of BRn* and IRQn*: `condition_laws`
+pub mod MetRequests
+-- the conditions of AS* and DS*, and of the rises of DTACK* and BERR*: `condition_laws`
+pub mod MetStrobes
+-- the conditions of BBSY*, BCLR* and the grant chains: `condition_laws`
+pub mod MetGrants
+-- the conditions of the pins of the grant chains: `condition_laws`
+pub mod MetGrantChains
+-- the conditions of the falls of DTACK* and BERR*: `condition_laws`
+pub mod MetAnswers
+-- the conditions of the pins of the acknowledge chain: `condition_laws`
+pub mod MetAcknowledges
+-- the condition that is named, and those above it, hold together on no bus: `condition_laws`
+pub mod NeverHolds
+-- each condition in the text of a capture that is impossible: `condition_laws`
+pub mod ToldFailing
 -- what is known of a cycle fits together: `laws`
 pub mod Fitting
 -- the lines of the changes that may come: `answers`

@@ -21,6 +21,8 @@ pub mod Obstacles
 pub mod Demands
 -- believe: the conditions of each change
 pub mod Conditions
+-- believe: when a condition of a change holds of a driver on a bus
+pub mod Holding
 -- believe: when something is named that stands in a driver's way
 pub mod Hindered
 -- words: the probed pins, as segments of the daisy chains

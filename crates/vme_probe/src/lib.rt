@@ -3,6 +3,7 @@
 #![tactic(auto)]
 
 mod answers;
+pub mod condition_laws;
 mod conditions;
 mod cycle_conditions;
 mod demands;
