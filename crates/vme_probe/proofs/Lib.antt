@@ -24,6 +24,8 @@ pub mod Said
 pub mod Tied
 -- who may have made a change: `laws`
 pub mod Makers
+-- what the last lines tell of the buses that show a capture: `laws`
+pub mod EndTells
 -- what is answered of a capture, and the buses that show it: `laws`
 pub mod Refused
 -- what is known and written, one thing that was said after the other: `probes`

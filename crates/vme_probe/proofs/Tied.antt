@@ -314,3 +314,8 @@ module _ (p : Plan) (ok : IsAccepted p) where
   tied v (entry.Change c ∷ said) all k waits text h =
       subst (λ x. Tied v (entry.Change c ∷ said) x) (some_same h.3 k (sym h.6))
       (at_change v said c h.0 h.3 h.5.0.drivers (tied v said all.1 h.0 h.1 h.2 h.4) h.5.0.follows)
+
+  -- at the end of a capture
+  pub tied_end : (v : Version) (said : List Entry) → AllSaid p said → (before : Option Known) (waits : List SeenChange) (text : List ℕ) → Judged p v None said before waits text → (k : Known) → Begun p v said before k → Tied v said k
+  tied_end v said all None waits text judged k b = at_head v said all (begun p v None said waits text judged) k b
+  tied_end v said all (Some j) waits text judged k b = subst (λ x. Tied v said x) b (tied v said all j waits text judged)

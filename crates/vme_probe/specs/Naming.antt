@@ -1,18 +1,30 @@
 -- What is printed of a capture, beside all buses that keep the rules and show it. (What such a bus
 -- shows is `vme_captures.specs.Possible`.) What was said is looked back at, so these lists have the
 -- newest first.
-use Rattle.std.specs.Prelude.{◌≡◌, ◌-◌, ◌++◌, ◌∷◌, [], ℕ, List, None, Some, length, reverse}
+use Rattle.std.specs.Option.{option_map_or}
+use Rattle.std.specs.Prelude.{◌≡◌, ◌-◌, ◌++◌, ◌∷◌, [], ℕ, Bool, true, false, List, None, Some, length, reverse}
+use Rattle.vme_model.specs.declared.signals.Cycle.{Cycle}
 use Rattle.vme_model.specs.declared.signals.Driver.{Driver}
+use Rattle.vme_model.specs.declared.signals.Driver.TheVariants.{Slot}
+use Rattle.vme_model.specs.declared.signals.Edge.{Edge}
 use Rattle.vme_model.specs.declared.signals.Version.{Version}
+use Rattle.vme_model.specs.declared.signals.Wire.TheVariants.{AddressStrobe, Bbsy, Irq}
+use Rattle.vme_model.specs.GrantSafety.{Travels}
+use Rattle.vme_model.specs.History.{drive, line, shown as shown_on}
 use Rattle.vme_model.specs.Plan.{Plan}
+use Rattle.vme_bus.specs.declared.sets.SlotSet.{SlotSet}
+use Rattle.vme_bus.specs.Sets.{has}
 use Rattle.vme_captures.specs.declared.signals.Entry.{Entry}
 use Rattle.vme_captures.specs.declared.signals.Entry.TheVariants as entry
-use Rattle.vme_captures.specs.Possible.{Capture, IsBy, IsPossible}
+use Rattle.vme_captures.specs.Possible.{Capture, Explains, IsBy, IsPossible}
 use Rattle.vme_captures.specs.Reading.{Reading, capture_of}
 use Rattle.vme_standings.specs.declared.standings.Drivers.{Drivers}
-use Rattle.vme_standings.specs.Covers.{Among}
+use Rattle.vme_standings.specs.declared.standings.Standings.{Standings}
+use Rattle.vme_standings.specs.Covers.{Among, says}
+use Rattle.vme_standings.specs.Requests.{is_on_level}
+use Rattle.vme_probe.specs.Ends.{may_pull, standing_text, waits_at}
 use Rattle.vme_probe.specs.Knowing.{seen_at}
-use Rattle.vme_probe.specs.Lines.{change_line}
+use Rattle.vme_probe.specs.Lines.{change_line, places_text}
 
 -- whoever may have made the newest change of the capture is among these
 abbrev pub AreAllMakers : Plan → Capture → Drivers → Type 0
@@ -31,6 +43,32 @@ Names p version (entry.Change c ∷ said) text =
     × AreAllMakers p (capture_of version (entry.Change c ∷ said)) d
     × (text ≡ before ++ change_line (seen_at said c).moment c d)
 
+-- The last lines leave out none of the buses that keep the rules and show the whole capture: not
+-- who holds the bus, where a grant stands, who drives AS*, or who pulls an interrupt line.
+pub record TellsAll (p : Plan) (c : Capture) (last : List ℕ) : Type 0 where
+  pub st : Standings
+  pub holders : SlotSet
+  pub nowhere : Bool
+  pub count : ℕ
+  pub coming : List ℕ
+  pub is : last ≡ standing_text p st holders (places_text nowhere (waits_at p st.phases)) count
+      ++ coming
+  pub holder : (g h : List Edge) (s : ℕ) → Explains p c g h → drive (h ++ g) (Slot s) Bbsy ≡ true
+      → has holders s ≡ true
+  pub granted : (g h : List Edge) (n s : ℕ) → Explains p c g h → Travels p (h ++ g) n s
+      → waits_at p st.phases n s ≡ true
+  pub none : (g h : List Edge) → Explains p c g h → ((n s : ℕ) → Travels p (h ++ g) n s → ⊥)
+      → nowhere ≡ true
+  pub addresser : (g h : List Edge) (s : ℕ) → Explains p c g h
+      → drive (h ++ g) (Slot s) AddressStrobe ≡ true → has st.addressers s ≡ true
+  pub shown : (g h : List Edge) (v : Cycle) → Explains p c g h
+      → line p (h ++ g) AddressStrobe ≡ true → shown_on p (h ++ g) ≡ Some v
+      → option_map_or (says v) st.shown false ≡ true
+  pub quiet : (g h : List Edge) → Explains p c g h → line p (h ++ g) AddressStrobe ≡ false
+      → st.shown ≡ None
+  pub puller : (g h : List Edge) (n s : ℕ) → Explains p c g h → is_on_level p n s ≡ true
+      → drive (h ++ g) (Slot s) Irq ≡ true → may_pull p st n s ≡ true
+
 -- The text has these lines for all changes of a whole capture, and the last lines behind them.
 pub record NamesAll (p : Plan) (r : Reading) (text : List ℕ) : Type 0 where
   pub version : Version
@@ -41,6 +79,7 @@ pub record NamesAll (p : Plan) (r : Reading) (text : List ℕ) : Type 0 where
   pub lines : List ℕ
   pub names : Names p version said lines
   pub last : List ℕ
+  pub tells : TellsAll p (capture_of version said) last
   pub is : text ≡ lines ++ last
 
 -- The text has these lines for what was said first. With what was said next, no bus that keeps the
