@@ -76,10 +76,10 @@ module _ (p : Plan) (ok : IsAccepted p) where
           lines = has.lines;
           names = names p ok x.version x.said all has.before has.waits has.lines has.judged;
           last = x.is.last;
-          tells = tells_all p ok x.version x.said x.is.after
+          tells = tells_all p ok x.version x.said all x.is.after
               (subst (λ k. Tied p ok x.version x.said k) (sym (same_known has.known x.is.after has.sample has.waits (none_wait p x.version x.said has.before has.waits has.lines has.judged) has.takes))
               (tied_end p ok x.version x.said all has.before has.waits has.lines has.judged has.known has.begun))
-              (probes_of p x.said) x.is.last x.is.ends;
+              x.is.last x.is.ends;
           is = x.is.is ∙ ap (λ l. l ++ x.is.last) (has.is ∙ (ap (λ l. has.lines ++ l) (nothing_more has.known x.is.after has.sample has.waits (none_wait p x.version x.said has.before has.waits has.lines has.judged) has.takes) ∙ append-nil has.lines));
         }
       where

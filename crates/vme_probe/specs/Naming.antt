@@ -1,6 +1,7 @@
 -- What is printed of a capture, beside all buses that keep the rules and show it. (What such a bus
 -- shows is `vme_captures.specs.Possible`.) What was said is looked back at, so these lists have the
 -- newest first.
+use Rattle.std.specs.List.{Contains}
 use Rattle.std.specs.Option.{option_map_or}
 use Rattle.std.specs.Prelude.{◌≡◌, ◌-◌, ◌++◌, ◌∷◌, [], ℕ, Bool, true, false, List, None, Some, length, reverse}
 use Rattle.vme_model.specs.declared.signals.Cycle.{Cycle}
@@ -8,23 +9,33 @@ use Rattle.vme_model.specs.declared.signals.Driver.{Driver}
 use Rattle.vme_model.specs.declared.signals.Driver.TheVariants.{Slot}
 use Rattle.vme_model.specs.declared.signals.Edge.{Edge}
 use Rattle.vme_model.specs.declared.signals.Version.{Version}
-use Rattle.vme_model.specs.declared.signals.Wire.TheVariants.{AddressStrobe, Bbsy, Irq}
+use Rattle.vme_model.specs.declared.signals.Wire.TheVariants.{AddressStrobe, Bbsy, Br, Irq}
 use Rattle.vme_model.specs.GrantSafety.{Travels}
 use Rattle.vme_model.specs.History.{drive, line, shown as shown_on}
 use Rattle.vme_model.specs.Plan.{Plan}
+use Rattle.vme_model.specs.Verdict.{IsLegal}
 use Rattle.vme_bus.specs.declared.sets.SlotSet.{SlotSet}
 use Rattle.vme_bus.specs.Sets.{has}
+use Rattle.vme_captures.specs.declared.signals.Change.{Change}
 use Rattle.vme_captures.specs.declared.signals.Entry.{Entry}
 use Rattle.vme_captures.specs.declared.signals.Entry.TheVariants as entry
+use Rattle.vme_captures.specs.declared.signals.Line.{Line}
+use Rattle.vme_captures.specs.declared.signals.Line.TheVariants as on_line
+use Rattle.vme_captures.specs.Changes.{agrees, is_line_low, seen}
+use Rattle.vme_captures.specs.Levels.{is_line_left_low}
 use Rattle.vme_captures.specs.Possible.{Capture, Explains, IsBy, IsPossible}
 use Rattle.vme_captures.specs.Reading.{Reading, capture_of}
+use Rattle.vme_captures.specs.Signals.{is_line}
 use Rattle.vme_standings.specs.declared.standings.Drivers.{Drivers}
 use Rattle.vme_standings.specs.declared.standings.Standings.{Standings}
 use Rattle.vme_standings.specs.Covers.{Among, says}
-use Rattle.vme_standings.specs.Requests.{is_on_level}
+use Rattle.vme_standings.specs.GrantChains.{is_of_level}
+use Rattle.vme_standings.specs.Standings.{is_nobody}
 use Rattle.vme_probe.specs.Ends.{may_pull, standing_text, waits_at}
 use Rattle.vme_probe.specs.Knowing.{seen_at}
-use Rattle.vme_probe.specs.Lines.{change_line, places_text}
+use Rattle.vme_probe.specs.Lines.{change_line, may_come_line, places_text, slots_text}
+
+-- ---- the changes
 
 -- whoever may have made the newest change of the capture is among these
 abbrev pub AreAllMakers : Plan → Capture → Drivers → Type 0
@@ -43,18 +54,42 @@ Names p version (entry.Change c ∷ said) text =
     × AreAllMakers p (capture_of version (entry.Change c ∷ said)) d
     × (text ≡ before ++ change_line (seen_at said c).moment c d)
 
+-- ---- the last lines
+
+-- the line of a line is printed, and names the slot
+abbrev pub NamesPuller : Standings → Line → (ℕ → Bool) → ℕ → Type 0
+NamesPuller st l pulls s =
+    (is_line l ≡ true) × (is_line_left_low st.lines l ≡ true) × (pulls s ≡ true)
+
+-- the lines of the changes that may come, each with those who may make it
+abbrev pub coming_text : List (Change × Drivers) → List ℕ
+coming_text [] = []
+coming_text (x ∷ xs) = may_come_line x.0 x.1 ++ coming_text xs
+
+-- one of these lines is printed of what is seen, and names the driver
+pub record NamesNext (coming : List (Change × Drivers)) (v : Change) (x : Driver) : Type 0 where
+  pub change : Change
+  pub drivers : Drivers
+  pub there : Contains coming (change, drivers)
+  pub agrees : agrees change v ≡ true
+  pub some : is_nobody drivers ≡ false
+  pub among : Among drivers x
+
 -- The last lines leave out none of the buses that keep the rules and show the whole capture: not
--- who holds the bus, where a grant stands, who drives AS*, or who pulls an interrupt line.
+-- who holds the bus, where a grant stands, who drives AS*, who pulls a request or interrupt line,
+-- and no change that may come next. (Such a list may end with edges that no probe sees.)
 pub record TellsAll (p : Plan) (c : Capture) (last : List ℕ) : Type 0 where
   pub st : Standings
   pub holders : SlotSet
   pub nowhere : Bool
   pub count : ℕ
-  pub coming : List ℕ
+  pub coming : List (Change × Drivers)
   pub is : last ≡ standing_text p st holders (places_text nowhere (waits_at p st.phases)) count
-      ++ coming
+      ++ coming_text coming
   pub holder : (g h : List Edge) (s : ℕ) → Explains p c g h → drive (h ++ g) (Slot s) Bbsy ≡ true
       → has holders s ≡ true
+  pub free : slots_text (has holders) ≡ [] → (g h : List Edge) (s : ℕ) → Explains p c g h
+      → drive (h ++ g) (Slot s) Bbsy ≡ false
   pub granted : (g h : List Edge) (n s : ℕ) → Explains p c g h → Travels p (h ++ g) n s
       → waits_at p st.phases n s ≡ true
   pub none : (g h : List Edge) → Explains p c g h → ((n s : ℕ) → Travels p (h ++ g) n s → ⊥)
@@ -66,8 +101,17 @@ pub record TellsAll (p : Plan) (c : Capture) (last : List ℕ) : Type 0 where
       → option_map_or (says v) st.shown false ≡ true
   pub quiet : (g h : List Edge) → Explains p c g h → line p (h ++ g) AddressStrobe ≡ false
       → st.shown ≡ None
-  pub puller : (g h : List Edge) (n s : ℕ) → Explains p c g h → is_on_level p n s ≡ true
-      → drive (h ++ g) (Slot s) Irq ≡ true → may_pull p st n s ≡ true
+  pub levels : (g h : List Edge) (l : Line) → Explains p c g h → is_line l ≡ true
+      → is_line_left_low st.lines l ≡ is_line_low p (h ++ g) l
+  pub asker : (g h : List Edge) (s : ℕ) → Explains p c g h → drive (h ++ g) (Slot s) Br ≡ true
+      → (n : ℕ) × NamesPuller st (on_line.Br n) (is_of_level p n) s
+  pub puller : (g h : List Edge) (s : ℕ) → Explains p c g h → drive (h ++ g) (Slot s) Irq ≡ true
+      → (n : ℕ) × NamesPuller st (on_line.Irq n) (may_pull p st n) s
+  pub next : (g h : List Edge) (e : Edge) (v : Change) → Explains p c g h
+      → IsLegal c.version p (e ∷ h ++ g) → seen p c.pins (h ++ g) e ≡ Some v
+      → NamesNext coming v e.driver
+
+-- ---- all of it
 
 -- The text has these lines for all changes of a whole capture, and the last lines behind them.
 pub record NamesAll (p : Plan) (r : Reading) (text : List ℕ) : Type 0 where
