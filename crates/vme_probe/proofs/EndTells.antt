@@ -38,7 +38,7 @@ use Rattle.vme_standings.proofs.Tests.{is_false, never}
 use Rattle.vme_probe.specs.declared.judging.Known.{Known}
 use Rattle.vme_probe.specs.Ends.{Coming, next_changes, standing_text, waits_at}
 use Rattle.vme_probe.specs.Knowing.{Ends}
-use Rattle.vme_probe.specs.Lines.{may_come_line, places_text, slot_text, slots_below}
+use Rattle.vme_probe.specs.Lines.{may_come_line, places_text, slot_text, slots_below, slots_text}
 use Rattle.vme_probe.specs.Naming.{NamesNext, TellsAll, coming_text}
 use Rattle.vme_probe.proofs.NextLines.{IsAmong, line_next}
 use Rattle.vme_probe.proofs.NextPins.{line_there, pin_next}
@@ -54,7 +54,7 @@ record Lists (p : Plan) (probed : Probed) (st : Standings) (cs : List Change) (t
   is : text ≡ coming_text all
   each : (c : Change) → Contains cs c → (d : Drivers) × AreDrivers p probed st c d × Contains all (c, d)
 
-none_there : {X : Type 0} (x : X) → Contains {X} [] x → ⊥
+none_there : {X : Type 0} (x : X) → Contains {X = X} [] x → ⊥
 none_there x (k, less, at) = omega (arith, less)
 
 -- who may make a change, as they are listed
@@ -75,7 +75,7 @@ lists p probed st (k ∷ cs) text (d, others, drivers, coming, is) =
       each = λ c there. by_place c (Contains-append_cases (k ∷ []) cs c there) rest.all rest.each;
     }
   where
-    head : (c : Change) (all : List (Change × Drivers)) → Contains {Change} [] c ⊎ (k ≡ c) → Told p probed st ((k, d) ∷ all) c
+    head : (c : Change) (all : List (Change × Drivers)) → Contains {X = Change} [] c ⊎ (k ≡ c) → Told p probed st ((k, d) ∷ all) c
     head c all (inl nay) = absurd (none_there c nay)
     head c all (inr same) = subst (Told p probed st ((k, d) ∷ all)) same (d, drivers, first all)
       where
@@ -92,7 +92,7 @@ lists p probed st (k ∷ cs) text (d, others, drivers, coming, is) =
 
 no_slot : (test : ℕ → Bool) (n s : ℕ) → slots_below test n ≡ [] → s < n → test s ≡ false
 no_slot test zero s none less = absurd (omega arith)
-no_slot test (suc n) s none less = by_place (s == n) refl (parts (slots_below test n) (slot_text (test n) n) none)
+no_slot test (suc n) s none less = by_place (s == n) refl (parts (slots_below test n) (slot_text (test n) n) none) (λ x under. no_slot test n s x under)
   where
     parts : (xs ys : List ℕ) → xs ++ ys ≡ [] → (xs ≡ []) × (ys ≡ [])
     parts [] ys is = (refl, is)
@@ -108,9 +108,9 @@ no_slot test (suc n) s none less = by_place (s == n) refl (parts (slots_below te
     below : (s == n) ≡ false → s < n
     below is = grind (arith, nat_tests)
 
-    by_place : (b : Bool) → (s == n) ≡ b → (slots_below test n ≡ []) × (slot_text (test n) n ≡ []) → test s ≡ false
-    by_place true is x = subst (λ t. test t ≡ false) (sym (same is)) (unnamed (test n) x.1)
-    by_place false is x = no_slot test n s x.0 (below is)
+    by_place : (b : Bool) → (s == n) ≡ b → (slots_below test n ≡ []) × (slot_text (test n) n ≡ []) → (slots_below test n ≡ [] → s < n → test s ≡ false) → test s ≡ false
+    by_place true is x earlier = subst (λ t. test t ≡ false) (sym (same is)) (unnamed (test n) x.1)
+    by_place false is x earlier = earlier x.0 (below is)
 
 -- ---- all of it
 
@@ -162,6 +162,7 @@ module _ (p : Plan) (ok : IsAccepted p) (version : Version) (said : List Entry) 
         }
 
   pub tells_all : TellsAll p (capture_of version said) text
+  unfolding slots_text
   tells_all = record {
     st = ends.hidden;
     holders = ends.is.stands.holders;

@@ -77,7 +77,7 @@ way_self false = refl
 
 brs_have : (st : Standings) (n k : ℕ) → n < k → Contains (next_brs st k) (next_of st (on_line.Br n))
 brs_have st n zero less = absurd (omega arith)
-brs_have st n (suc k) less = by_test (n == k) refl
+brs_have st n (suc k) less = by_test (n == k) refl (λ under. brs_have st n k under)
   where
     same : (n == k) ≡ true → n ≡ k
     same is = grind (arith, nat_tests)
@@ -85,16 +85,16 @@ brs_have st n (suc k) less = by_test (n == k) refl
     below : (n == k) ≡ false → n < k
     below is = grind (arith, nat_tests)
 
-    by_test : (b : Bool) → (n == k) ≡ b → Contains (next_brs st k ++ next_of st (on_line.Br k) ∷ []) (next_of st (on_line.Br n))
-    by_test true is =
+    by_test : (b : Bool) → (n == k) ≡ b → (n < k → Contains (next_brs st k) (next_of st (on_line.Br n))) → Contains (next_brs st k ++ next_of st (on_line.Br k) ∷ []) (next_of st (on_line.Br n))
+    by_test true is earlier =
         subst (λ m. Contains (next_brs st k ++ next_of st (on_line.Br k) ∷ []) (next_of st (on_line.Br m))) (sym (same is))
         (Contains-push (next_brs st k) (next_of st (on_line.Br k)))
-    by_test false is =
-        Contains-append_left (next_brs st k) (next_of st (on_line.Br k) ∷ []) (next_of st (on_line.Br n)) (brs_have st n k (below is))
+    by_test false is earlier =
+        Contains-append_left (next_brs st k) (next_of st (on_line.Br k) ∷ []) (next_of st (on_line.Br n)) (earlier (below is))
 
 irqs_have : (st : Standings) (n k : ℕ) → n < k → Contains (next_irqs st k) (next_of st (on_line.Irq (n + 1)))
 irqs_have st n zero less = absurd (omega arith)
-irqs_have st n (suc k) less = by_test (n == k) refl
+irqs_have st n (suc k) less = by_test (n == k) refl (λ under. irqs_have st n k under)
   where
     same : (n == k) ≡ true → n ≡ k
     same is = grind (arith, nat_tests)
@@ -102,12 +102,13 @@ irqs_have st n (suc k) less = by_test (n == k) refl
     below : (n == k) ≡ false → n < k
     below is = grind (arith, nat_tests)
 
-    by_test : (b : Bool) → (n == k) ≡ b → Contains (next_irqs st k ++ next_of st (on_line.Irq (k + 1)) ∷ []) (next_of st (on_line.Irq (n + 1)))
-    by_test true is =
+    by_test : (b : Bool) → (n == k) ≡ b → (n < k → Contains (next_irqs st k) (next_of st (on_line.Irq (n + 1))))
+        → Contains (next_irqs st k ++ next_of st (on_line.Irq (k + 1)) ∷ []) (next_of st (on_line.Irq (n + 1)))
+    by_test true is earlier =
         subst (λ m. Contains (next_irqs st k ++ next_of st (on_line.Irq (k + 1)) ∷ []) (next_of st (on_line.Irq (m + 1)))) (sym (same is))
         (Contains-push (next_irqs st k) (next_of st (on_line.Irq (k + 1))))
-    by_test false is =
-        Contains-append_left (next_irqs st k) (next_of st (on_line.Irq (k + 1)) ∷ []) (next_of st (on_line.Irq (n + 1))) (irqs_have st n k (below is))
+    by_test false is earlier =
+        Contains-append_left (next_irqs st k) (next_of st (on_line.Irq (k + 1)) ∷ []) (next_of st (on_line.Irq (n + 1))) (earlier (below is))
 
 -- the fall of AS* with an acknowledge
 abbrev acknowledges : ℕ → Change
@@ -115,7 +116,7 @@ acknowledges n = strobe_fall (value.Shown (cycle.Acknowledge n))
 
 acknowledges_have : (n k : ℕ) → n < k → Contains (next_acknowledges k) (acknowledges (n + 1))
 acknowledges_have n zero less = absurd (omega arith)
-acknowledges_have n (suc k) less = by_test (n == k) refl
+acknowledges_have n (suc k) less = by_test (n == k) refl (λ under. acknowledges_have n k under)
   where
     same : (n == k) ≡ true → n ≡ k
     same is = grind (arith, nat_tests)
@@ -123,12 +124,12 @@ acknowledges_have n (suc k) less = by_test (n == k) refl
     below : (n == k) ≡ false → n < k
     below is = grind (arith, nat_tests)
 
-    by_test : (b : Bool) → (n == k) ≡ b → Contains (next_acknowledges k ++ acknowledges (k + 1) ∷ []) (acknowledges (n + 1))
-    by_test true is =
+    by_test : (b : Bool) → (n == k) ≡ b → (n < k → Contains (next_acknowledges k) (acknowledges (n + 1))) → Contains (next_acknowledges k ++ acknowledges (k + 1) ∷ []) (acknowledges (n + 1))
+    by_test true is earlier =
         subst (λ m. Contains (next_acknowledges k ++ acknowledges (k + 1) ∷ []) (acknowledges (m + 1))) (sym (same is))
         (Contains-push (next_acknowledges k) (acknowledges (k + 1)))
-    by_test false is =
-        Contains-append_left (next_acknowledges k) (acknowledges (k + 1) ∷ []) (acknowledges (n + 1)) (acknowledges_have n k (below is))
+    by_test false is earlier =
+        Contains-append_left (next_acknowledges k) (acknowledges (k + 1) ∷ []) (acknowledges (n + 1)) (earlier (below is))
 
 -- a level is one more than a number below 7
 below_level : (n : ℕ) → is_level n ≡ true → (m : ℕ) × (m < 7) × (m + 1 ≡ n)
@@ -177,6 +178,7 @@ module _ (st : Standings) where
 
   -- each line but AS*
   line_in : (l : Line) → is_line l ≡ true → is_same_line l on_line.AddressStrobe ≡ false → Contains (next_lines st) (next_of st l)
+  unfolding next_requests next_interrupts
   line_in (on_line.Br n) is other =
       from_interrupts (next_of st (on_line.Br n)) (Contains-append_left requests (next_interrupts st) (next_of st (on_line.Br n)) (brs_have st n 4 (grind (arith, nat_tests))))
   line_in (on_line.Irq n) is other =
@@ -364,6 +366,7 @@ module _ (version : Version) (p : Plan) (ok : IsAccepted p) (pins : List Pin) (h
     }
 
     strobe_falls : IsAmong (next_lines st) v
+    unfolding next_cycles
     strobe_falls = by_cycle shows.cycle refl shows.range
       where
         by_cycle : (c : Cycle) → shows.cycle ≡ c → is_in_range c ≡ true → IsAmong (next_lines st) v

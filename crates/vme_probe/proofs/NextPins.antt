@@ -55,7 +55,7 @@ last_below probes c k = next_of_probe (probe_at probes (segment_of_slot c k))
 
 below_has : (probes : List Probe) (c : ChainId) (s k : ℕ) (r : Probe) → s < k → probe_at probes (segment_of_slot c s) ≡ Some r → Contains (pins_below probes c k) (of_probe r)
 below_has probes c s zero r less found = absurd (omega arith)
-below_has probes c s (suc k) r less found = by_test (s == k) refl
+below_has probes c s (suc k) r less found = by_test (s == k) refl (λ under. below_has probes c s k r under found)
   where
     same : (s == k) ≡ true → s ≡ k
     same is = grind (arith, nat_tests)
@@ -63,11 +63,11 @@ below_has probes c s (suc k) r less found = by_test (s == k) refl
     below : (s == k) ≡ false → s < k
     below is = grind (arith, nat_tests)
 
-    by_test : (b : Bool) → (s == k) ≡ b → Contains (pins_below probes c k ++ last_below probes c k) (of_probe r)
-    by_test true is =
+    by_test : (b : Bool) → (s == k) ≡ b → (s < k → Contains (pins_below probes c k) (of_probe r)) → Contains (pins_below probes c k ++ last_below probes c k) (of_probe r)
+    by_test true is earlier =
         Contains-append_right (pins_below probes c k) (last_below probes c k) (of_probe r)
         (subst (λ o. Contains (next_of_probe o) (of_probe r)) (sym found ∙ ap (λ t. probe_at probes (segment_of_slot c t)) (same is)) (Contains-push [] (of_probe r)))
-    by_test false is = Contains-append_left (pins_below probes c k) (last_below probes c k) (of_probe r) (below_has probes c s k r (below is) found)
+    by_test false is earlier = Contains-append_left (pins_below probes c k) (last_below probes c k) (of_probe r) (earlier (below is))
 
 module _ (st : Standings) (probes : List Probe) where
   abbrev with_0 : List Change
@@ -162,6 +162,7 @@ module _ (p : Plan) (ok : IsAccepted p) (version : Version) (said : List Entry) 
       (subst (λ (o : Option Value). are_values_of None o ≡ true) (sym (seen_value p (pins said) (h ++ g) e v s ∙ no_value p (h ++ g) e e.wire (board_of p e.driver) (wire_of p q) e.fall moves)) refl)
 
   pub pin_next : (st : Standings) → IsAmong (next_changes st (probes_of p said)) v
+  unfolding next_pins
   pin_next st = record {
     change = of_probe (probe_of p said q);
     there = chain_there st (probes_of p said) q.chain (of_probe (probe_of p said q)) (below_has (probes_of p said) q.chain place 22 (probe_of p said q) near probed);

@@ -86,7 +86,7 @@ seen_pin p pins h e v s g q moves found =
     same a b x = cc
 
 -- the level of a pin behind changes, the newest first
-pub behind_changes : Pin → List Change → Bool → Bool
+abbrev pub behind_changes : Pin → List Change → Bool → Bool
 behind_changes q [] low = low
 behind_changes q (c ∷ cs) low = if is_same_signal c.signal (signal.Pin q) then c.fall else behind_changes q cs low
 
@@ -168,7 +168,7 @@ module _ (p : Plan) (ok : IsAccepted p) (pins : List Pin) (q : Pin) (found : pin
           let signal_same = signal_same c.signal v.signal (and_left (is_same_signal c.signal v.signal) (is_same_way c.fall v.fall) first) in
           let fall_same = same_way c.fall v.fall (and_right (is_same_signal c.signal v.signal) (is_same_way c.fall v.fall) first) in
           ap (λ x. if is_same_signal x (signal.Pin q) then c.fall else a) signal_same
-          ∙ ap (λ f. if is_same_signal v.signal (signal.Pin q) then f else a) (sym fall_same)
+          ∙ ap (λ f. if is_same_signal v.signal (signal.Pin q) then f else a) fall_same
           ∙ ap (λ y. if is_same_signal v.signal (signal.Pin q) then v.fall else y) same
 
       by_sight : (o : Option Change) → is_low p (e ∷ (h ++ g)) (signal.Pin q) ≡ behind_edge o (signal.Pin q) (is_low p (h ++ g) (signal.Pin q)) → (cs : List Change)

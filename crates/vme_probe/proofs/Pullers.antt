@@ -72,9 +72,11 @@ module _ (version : Version) (p : Plan) (ok : IsAccepted p) (pins : List Pin) (h
           let asks : requests_on q.level b.row ≡ true = ap (λ (o : Option RequesterRow). option_map_or (λ z. z.level == q.level) o false) is ∙ self q.level in
           let pulls = both (requests_on q.level b.row) (drive h (Slot b.row.slot) Br) asks (subst (λ t. drive h (Slot t) Br ≡ true) (sym f.slot) low) in (
             q.level,
-            there,
-            covers.levels.shared (on_line.Br q.level) there ∙ f.passes (pulls_request h q.level) pulls,
-            ap (λ (o : Option Row). option_map_or (requests_on q.level) o false) b.found ∙ asks,
+            (
+              there,
+              covers.levels.shared (on_line.Br q.level) there ∙ f.passes (pulls_request h q.level) pulls,
+              ap (λ (o : Option Row). option_map_or (requests_on q.level) o false) b.found ∙ asks,
+            ),
           )
 
   pub puller : drive h (Slot s) Irq ≡ true → (n : ℕ) × NamesPuller st (on_line.Irq n) (may_pull p st n) s
@@ -92,7 +94,9 @@ module _ (version : Version) (p : Plan) (ok : IsAccepted p) (pins : List Pin) (h
           let pulls = both (interrupts_on i.level b.row) (drive h (Slot b.row.slot) Irq) asks (subst (λ t. drive h (Slot t) Irq ≡ true) (sym f.slot) low) in
           let has : is_on_level p i.level s ≡ true = ap (λ (o : Option Row). option_map_or (interrupts_on i.level) o false) b.found ∙ asks in (
             i.level,
-            there,
-            covers.levels.shared (on_line.Irq i.level) there ∙ f.passes (pulls_interrupt h i.level) pulls,
-            puller_told p pins h st covers i.level s has low,
+            (
+              there,
+              covers.levels.shared (on_line.Irq i.level) there ∙ f.passes (pulls_interrupt h i.level) pulls,
+              puller_told p pins h st covers i.level s has low,
+            ),
           )
