@@ -1,5 +1,5 @@
 -- A shared line that an edge moves next has such a change among those that may come: `laws`.
-use Rattle.std.proofs.Common.{◌≡◌, ◌∙◌, ◌<◌, ◌≤◌, ◌+◌, ◌-◌, ◌++◌, ◌∷◌, [], ℕ, zero, suc, Bool, true, false, List, Option, Some, None, refl, sym, ap, subst, arith, not}
+use Rattle.std.proofs.Common.{◌≡◌, ◌∙◌, ◌<◌, ◌+◌, ◌++◌, ◌∷◌, [], ℕ, zero, suc, Bool, true, false, List, Option, Some, None, refl, sym, ap, subst, arith, not}
 use Rattle.std.specs.Prelude.{◌==◌, ◌&&◌, if◌then◌else◌, option_map}
 use Rattle.std.specs.List.{Contains}
 use Rattle.std.specs.Option.{IfSome}
@@ -19,7 +19,7 @@ use Rattle.vme_model.specs.declared.signals.Wire.{Wire}
 use Rattle.vme_model.specs.declared.signals.Wire.TheVariants as wire
 use Rattle.vme_model.specs.Accepted.{IsAccepted}
 use Rattle.vme_model.specs.Deliveries.{delivery}
-use Rattle.vme_model.specs.History.{drive, line, shown}
+use Rattle.vme_model.specs.History.{drive, line}
 use Rattle.vme_model.specs.Plan.{Plan, board, board_of}
 use Rattle.vme_model.specs.Signals.{is_in_range, is_level}
 use Rattle.vme_model.specs.Verdict.{IsLegal}

@@ -20,10 +20,9 @@ use Rattle.vme_captures.specs.declared.signals.Entry.{Entry}
 use Rattle.vme_captures.specs.declared.signals.Line.{Line}
 use Rattle.vme_captures.specs.declared.signals.Pin.{Pin}
 use Rattle.vme_captures.specs.declared.signals.Segment.{Segment}
-use Rattle.vme_captures.specs.declared.signals.Signal.{Signal}
 use Rattle.vme_captures.specs.declared.signals.Signal.TheVariants as signal
 use Rattle.vme_captures.specs.declared.signals.Value.{Value}
-use Rattle.vme_captures.specs.Changes.{agrees, are_values_of, differ, is_low, is_same_way, line_of, seen, segment_of, signal_of, signal_on, value_at}
+use Rattle.vme_captures.specs.Changes.{agrees, are_values_of, is_low, is_same_way, seen, segment_of, signal_on, value_at}
 use Rattle.vme_captures.specs.Feeding.{probe_of, probes_of}
 use Rattle.vme_captures.specs.Possible.{Explains}
 use Rattle.vme_captures.specs.Reading.{capture_of, is_left_low, pins}

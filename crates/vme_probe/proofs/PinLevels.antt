@@ -23,7 +23,7 @@ use Rattle.vme_captures.specs.declared.signals.Side.{Side}
 use Rattle.vme_captures.specs.declared.signals.Side.TheVariants.{In, Out}
 use Rattle.vme_captures.specs.declared.signals.Signal.{Signal}
 use Rattle.vme_captures.specs.declared.signals.Signal.TheVariants as signal
-use Rattle.vme_captures.specs.Changes.{agrees, are_values_of, differ, is_low, is_same_way, line_of, seen, segment_of, signal_on}
+use Rattle.vme_captures.specs.Changes.{agrees, are_values_of, differ, is_low, is_same_way, seen, segment_of, signal_on}
 use Rattle.vme_captures.specs.Possible.{AgreeEach, Explains, is_among, sightings, with_sighting}
 use Rattle.vme_captures.specs.Reading.{capture_of, changes, is_left_low, is_running, last_moment, lows, pins}
 use Rattle.vme_captures.specs.Signals.{is_same_chain, is_same_pin, is_same_side, is_same_signal}
@@ -32,7 +32,7 @@ use Rattle.vme_captures.proofs.Same.{signal_same}
 use Rattle.vme_standings.specs.Covers.{is_probed, is_segment_low, segment_at}
 use Rattle.vme_standings.proofs.JoinedLevels.{drive_grows, drive_shrinks, drive_stays, turned}
 use Rattle.vme_standings.proofs.JoinedSegments.{moved_is, no_line, place_of_pin, segments_stay, wire_at}
-use Rattle.vme_standings.proofs.SeenEdges.{segment_is, signal_is}
+use Rattle.vme_standings.proofs.SeenEdges.{signal_is}
 use Rattle.vme_standings.proofs.SeenLines.{differs, way}
 use Rattle.vme_standings.proofs.Tests.{both, never, or_left, or_true}
 use Rattle.vme_probe.proofs.Said.{AllSaid, said_stands}
