@@ -164,28 +164,32 @@ module _ (p : Plan) (ok : IsAccepted p) (version : Version) (said : List Entry) 
   pub tells_all : TellsAll p (capture_of version said) text
   unfolding slots_text
   tells_all = record {
-    st = ends.hidden;
-    holders = ends.is.stands.holders;
-    nowhere = ends.is.stands.places_are.nowhere;
-    count = k.changes;
-    coming = coming.all;
+    told = record {
+      st = ends.hidden;
+      holders = ends.is.stands.holders;
+      nowhere = ends.is.stands.places_are.nowhere;
+      count = k.changes;
+      coming = coming.all;
+    };
     is = ends.is.adds.added ∙ ap (λ l. ends.is.standing ++ l) coming.is ∙ ap (λ l. l ++ coming_text coming.all) standing_is;
-    holder = λ g h s x on. (held g h s x on).1;
-    free = λ none g h s x. is_false (drive (h ++ g) (Slot s) Bbsy)
-        (λ on.
-        let y = held g h s x on in
-        never (has ends.is.stands.holders s) y.1 (no_slot (has ends.is.stands.holders) 22 s none y.0));
-    granted = λ g h n s x at. grant_told p ok (h ++ g) (pins said) ends.hidden (covers g h x) n s at;
-    none = λ g h x nay.
-        let q = nowhere_told p ok (h ++ g) (pins said) ends.hidden (covers g h x) version x.legal nay in
-        ends.is.stands.places_are.nowhere_is.all q.0 q.1 q.2 q.3;
-    addresser = λ g h s x on. (covers g h x).addressers s on;
-    shown = λ g h c x low is. (covers g h x).shown.shown c low is;
-    quiet = λ g h x high. (covers g h x).shown.high high;
-    levels = λ g h l x on. (covers g h x).levels.shared l on;
-    asker = λ g h s x low. asker version p ok (pins said) (h ++ g) x.legal ends.hidden (covers g h x) s low;
-    puller = λ g h s x low. puller version p ok (pins said) (h ++ g) x.legal ends.hidden (covers g h x) s low;
-    next = next;
+    tells = λ g h x. record {
+      holder = λ s on. (held g h s x on).1;
+      free = λ none s. is_false (drive (h ++ g) (Slot s) Bbsy)
+          (λ on.
+          let y = held g h s x on in
+          never (has ends.is.stands.holders s) y.1 (no_slot (has ends.is.stands.holders) 22 s none y.0));
+      granted = λ n s at. grant_told p ok (h ++ g) (pins said) ends.hidden (covers g h x) n s at;
+      none = λ nay.
+          let q = nowhere_told p ok (h ++ g) (pins said) ends.hidden (covers g h x) version x.legal nay in
+          ends.is.stands.places_are.nowhere_is.all q.0 q.1 q.2 q.3;
+      addresser = λ s on. (covers g h x).addressers s on;
+      shown = λ c low is. (covers g h x).shown.shown c low is;
+      quiet = λ high. (covers g h x).shown.high high;
+      levels = λ l on. (covers g h x).levels.shared l on;
+      asker = λ s low. asker version p ok (pins said) (h ++ g) x.legal ends.hidden (covers g h x) s low;
+      puller = λ s low. puller version p ok (pins said) (h ++ g) x.legal ends.hidden (covers g h x) s low;
+      next = λ e v legal s. next g h e v x legal s;
+    };
   }
     where
       standing_is : ends.is.standing ≡ standing_text p ends.hidden ends.is.stands.holders (places_text ends.is.stands.places_are.nowhere (waits_at p ends.hidden.phases)) k.changes

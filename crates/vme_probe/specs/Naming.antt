@@ -21,6 +21,7 @@ use Rattle.vme_captures.specs.declared.signals.Entry.{Entry}
 use Rattle.vme_captures.specs.declared.signals.Entry.TheVariants as entry
 use Rattle.vme_captures.specs.declared.signals.Line.{Line}
 use Rattle.vme_captures.specs.declared.signals.Line.TheVariants as on_line
+use Rattle.vme_captures.specs.declared.signals.Pin.{Pin}
 use Rattle.vme_captures.specs.Changes.{agrees, is_line_low, seen}
 use Rattle.vme_captures.specs.Levels.{is_line_left_low}
 use Rattle.vme_captures.specs.Possible.{Capture, Explains, IsBy, IsPossible}
@@ -75,41 +76,48 @@ pub record NamesNext (coming : List (Change × Drivers)) (v : Change) (x : Drive
   pub some : is_nobody drivers ≡ false
   pub among : Among drivers x
 
--- The last lines leave out none of the buses that keep the rules and show the whole capture: not
--- who holds the bus, where a grant stands, who drives AS*, who pulls a request or interrupt line,
--- and no change that may come next. (Such a list may end with edges that no probe sees.)
-pub record TellsAll (p : Plan) (c : Capture) (last : List ℕ) : Type 0 where
+-- what the last lines say: how the bus stands, and what may come
+pub record Told : Type 0 where
   pub st : Standings
   pub holders : SlotSet
   pub nowhere : Bool
   pub count : ℕ
   pub coming : List (Change × Drivers)
-  pub is : last ≡ standing_text p st holders (places_text nowhere (waits_at p st.phases)) count
-      ++ coming_text coming
-  pub holder : (g h : List Edge) (s : ℕ) → Explains p c g h → drive (h ++ g) (Slot s) Bbsy ≡ true
-      → has holders s ≡ true
-  pub free : slots_text (has holders) ≡ [] → (g h : List Edge) (s : ℕ) → Explains p c g h
-      → drive (h ++ g) (Slot s) Bbsy ≡ false
-  pub granted : (g h : List Edge) (n s : ℕ) → Explains p c g h → Travels p (h ++ g) n s
-      → waits_at p st.phases n s ≡ true
-  pub none : (g h : List Edge) → Explains p c g h → ((n s : ℕ) → Travels p (h ++ g) n s → ⊥)
-      → nowhere ≡ true
-  pub addresser : (g h : List Edge) (s : ℕ) → Explains p c g h
-      → drive (h ++ g) (Slot s) AddressStrobe ≡ true → has st.addressers s ≡ true
-  pub shown : (g h : List Edge) (v : Cycle) → Explains p c g h
-      → line p (h ++ g) AddressStrobe ≡ true → shown_on p (h ++ g) ≡ Some v
-      → option_map_or (says v) st.shown false ≡ true
-  pub quiet : (g h : List Edge) → Explains p c g h → line p (h ++ g) AddressStrobe ≡ false
-      → st.shown ≡ None
-  pub levels : (g h : List Edge) (l : Line) → Explains p c g h → is_line l ≡ true
-      → is_line_left_low st.lines l ≡ is_line_low p (h ++ g) l
-  pub asker : (g h : List Edge) (s : ℕ) → Explains p c g h → drive (h ++ g) (Slot s) Br ≡ true
-      → (n : ℕ) × NamesPuller st (on_line.Br n) (is_of_level p n) s
-  pub puller : (g h : List Edge) (s : ℕ) → Explains p c g h → drive (h ++ g) (Slot s) Irq ≡ true
-      → (n : ℕ) × NamesPuller st (on_line.Irq n) (may_pull p st n) s
-  pub next : (g h : List Edge) (e : Edge) (v : Change) → Explains p c g h
-      → IsLegal c.version p (e ∷ h ++ g) → seen p c.pins (h ++ g) e ≡ Some v
-      → NamesNext coming v e.driver
+
+abbrev pub last_text : Plan → Told → List ℕ
+last_text p t =
+    standing_text p t.st t.holders (places_text t.nowhere (waits_at p t.st.phases)) t.count
+    ++ coming_text t.coming
+
+-- They leave nothing out of a bus behind the edges of h: who holds it, where a grant stands, who
+-- drives AS* and what is shown then, who pulls a request or interrupt line, and each change that is
+-- seen of an edge that the rules allow next.
+pub record Tells
+    (p : Plan) (version : Version) (pins : List Pin) (h : List Edge) (t : Told)
+    : Type 0 where
+  pub holder : (s : ℕ) → drive h (Slot s) Bbsy ≡ true → has t.holders s ≡ true
+  -- `holder none`
+  pub free : slots_text (has t.holders) ≡ [] → (s : ℕ) → drive h (Slot s) Bbsy ≡ false
+  pub granted : (n s : ℕ) → Travels p h n s → waits_at p t.st.phases n s ≡ true
+  pub none : ((n s : ℕ) → Travels p h n s → ⊥) → t.nowhere ≡ true
+  pub addresser : (s : ℕ) → drive h (Slot s) AddressStrobe ≡ true → has t.st.addressers s ≡ true
+  pub shown : (v : Cycle) → line p h AddressStrobe ≡ true → shown_on p h ≡ Some v
+      → option_map_or (says v) t.st.shown false ≡ true
+  pub quiet : line p h AddressStrobe ≡ false → t.st.shown ≡ None
+  pub levels : (l : Line) → is_line l ≡ true → is_line_left_low t.st.lines l ≡ is_line_low p h l
+  pub asker : (s : ℕ) → drive h (Slot s) Br ≡ true
+      → (n : ℕ) × NamesPuller t.st (on_line.Br n) (is_of_level p n) s
+  pub puller : (s : ℕ) → drive h (Slot s) Irq ≡ true
+      → (n : ℕ) × NamesPuller t.st (on_line.Irq n) (may_pull p t.st n) s
+  pub next : (e : Edge) (v : Change) → IsLegal version p (e ∷ h) → seen p pins h e ≡ Some v
+      → NamesNext t.coming v e.driver
+
+-- The last lines leave out none of the buses that keep the rules and show the whole capture. (The
+-- edges of such a bus may end with any number that no probe sees.)
+pub record TellsAll (p : Plan) (c : Capture) (last : List ℕ) : Type 0 where
+  pub told : Told
+  pub is : last ≡ last_text p told
+  pub tells : (g h : List Edge) → Explains p c g h → Tells p c.version c.pins (h ++ g) told
 
 -- ---- all of it
 
