@@ -1,6 +1,6 @@
 -- The boards that pull a request or interrupt line are in the line that is printed of it: `laws`.
-use Rattle.std.proofs.Common.{◌≡◌, ◌∙◌, ◌<◌, ℕ, Bool, true, false, List, Option, Some, None, refl, sym, ap, subst, arith, is_some}
-use Rattle.std.specs.Prelude.{◌==◌}
+use Rattle.std.proofs.Common.{◌≡◌, ◌∙◌, ◌<◌, ℕ, Bool, true, false, List, [], ◌∷◌, Option, Some, None, refl, sym, ap, subst, arith, is_some}
+use Rattle.std.specs.Prelude.{◌==◌, if◌then◌else◌}
 use Rattle.std.specs.Option.{IfSome, option_map_or}
 use Rattle.std.proofs.lemmas.Bool.Decides.{nat_tests}
 use Rattle.vme_model.specs.declared.boards.InterrupterRow.{InterrupterRow}
@@ -14,10 +14,11 @@ use Rattle.vme_model.specs.declared.signals.Wire.TheVariants.{Br, Irq}
 use Rattle.vme_model.specs.Accepted.{IsAccepted}
 use Rattle.vme_model.specs.History.{drive, pulls_interrupt, pulls_request}
 use Rattle.vme_model.specs.Plan.{Plan, board, drives, has_driver, interrupts_on, requests_on}
+use Rattle.vme_model.specs.Signals.{is_edge_of, is_same_driver, is_same_wire}
 use Rattle.vme_model.specs.Verdict.{IsLegal}
+use Rattle.vme_model.proofs.Bools.{and_left, and_right}
 use Rattle.vme_model.proofs.Members.{IsFound, found_row}
 use Rattle.vme_model.proofs.Ranges.{IsRowInRange, in_range}
-use Rattle.vme_histories.proofs.Drivers.{never_drove}
 use Rattle.vme_captures.specs.declared.signals.Line.TheVariants as on_line
 use Rattle.vme_captures.specs.declared.signals.Pin.{Pin}
 use Rattle.vme_captures.specs.Signals.{is_line}
@@ -26,7 +27,7 @@ use Rattle.vme_standings.specs.Covers.{Covers}
 use Rattle.vme_standings.specs.GrantChains.{is_of_level}
 use Rattle.vme_standings.specs.Requests.{is_on_level}
 use Rattle.vme_standings.proofs.JoinedTells.{puller_told}
-use Rattle.vme_standings.proofs.RequestRows.{level_is}
+use Rattle.vme_standings.proofs.RequestRows.{level_is, passed_as}
 use Rattle.vme_standings.proofs.Tests.{both, never}
 use Rattle.vme_probe.specs.Ends.{may_pull}
 use Rattle.vme_probe.specs.Naming.{NamesPuller}
@@ -37,15 +38,39 @@ record HasWire (p : Plan) (s : ℕ) (w : Wire) : Type 0 where
   found : board p s ≡ Some row
   has : drives w row ≡ true
 
-driver_there : (version : Version) (p : Plan) (h : List Edge) → IsLegal version p h → (s : ℕ) (w : Wire) → drive h (Slot s) w ≡ true → HasWire p s w
-driver_there version p h legal s w low = by_driver (has_driver p (Slot s) w) refl
+-- each wire that passes for this one is this one
+abbrev IsAlone : Wire → Type 0
+IsAlone w = (x : Wire) → is_same_wire x w ≡ true → x ≡ w
+
+br_alone : IsAlone Br
+br_alone Br is = refl
+br_alone x is = absurd (cc)
+
+irq_alone : IsAlone Irq
+irq_alone Irq is = refl
+irq_alone x is = absurd (cc)
+
+-- a slot without such a wire never drove it
+never_drove : (version : Version) (p : Plan) (h : List Edge) (s : ℕ) (w : Wire) → IsAlone w → IsLegal version p h → has_driver p (Slot s) w ≡ false → drive h (Slot s) w ≡ false
+never_drove version p [] s w alone legal lacks = refl
+never_drove version p (e ∷ h) s w alone legal lacks = by_edge (never_drove version p h s w alone legal.1 lacks) (is_edge_of (Slot s) w e) refl
+  where
+    by_edge : drive h (Slot s) w ≡ false → (b : Bool) → is_edge_of (Slot s) w e ≡ b → (if b then e.fall else drive h (Slot s) w) ≡ false
+    by_edge before true is =
+        let driver = and_right (is_same_wire e.wire w) (is_same_driver e.driver (Slot s)) is in
+        let wire = alone e.wire (and_left (is_same_wire e.wire w) (is_same_driver e.driver (Slot s)) is) in
+        absurd (never (has_driver p (Slot s) w) (passed_as version p h e s w e.fall legal driver wire refl).exists lacks)
+    by_edge before false is = before
+
+driver_there : (version : Version) (p : Plan) (h : List Edge) → IsLegal version p h → (s : ℕ) (w : Wire) → IsAlone w → drive h (Slot s) w ≡ true → HasWire p s w
+driver_there version p h legal s w alone low = by_driver (has_driver p (Slot s) w) refl
   where
     by_board : (o : Option Row) → board p s ≡ o → option_map_or (drives w) o false ≡ true → HasWire p s w
     by_board None found on = absurd (cc)
     by_board (Some r) found on = record { row = r; found = found; has = on }
 
     by_driver : (b : Bool) → has_driver p (Slot s) w ≡ b → HasWire p s w
-    by_driver false lacks = absurd (never (drive h (Slot s) w) low (never_drove version p h (Slot s) w legal lacks))
+    by_driver false lacks = absurd (never (drive h (Slot s) w) low (never_drove version p h s w alone legal lacks))
     by_driver true on = by_board (board p s) refl on
 
 self : (n : ℕ) → (n == n) ≡ true
@@ -59,7 +84,7 @@ module _ (version : Version) (p : Plan) (ok : IsAccepted p) (pins : List Pin) (h
   asker low = by_requester b.row.requester refl b.has
     where
       b : HasWire p s Br
-      b = driver_there version p h legal s Br low
+      b = driver_there version p h legal s Br br_alone low
 
       level : (n : ℕ) → n < 4 → is_line (on_line.Br n) ≡ true
       level n few = grind (arith, nat_tests)
@@ -83,7 +108,7 @@ module _ (version : Version) (p : Plan) (ok : IsAccepted p) (pins : List Pin) (h
   puller low = by_interrupter b.row.interrupter refl b.has
     where
       b : HasWire p s Irq
-      b = driver_there version p h legal s Irq low
+      b = driver_there version p h legal s Irq irq_alone low
 
       by_interrupter : (o : Option InterrupterRow) → b.row.interrupter ≡ o → is_some o ≡ true → (n : ℕ) × NamesPuller st (on_line.Irq n) (may_pull p st n) s
       by_interrupter None is on = absurd (cc)
