@@ -44,6 +44,16 @@ pub mod Said
 pub mod Tied
 -- who may have made a change: `laws`
 pub mod Makers
+-- a shared line that an edge moves next is in a line of what may come: `laws`
+pub mod NextLines
+-- what was said of the probed pins is how they stand: `laws`
+pub mod PinLevels
+-- a probed pin that an edge moves next is in a line of what may come: `laws`
+pub mod NextPins
+-- the boards that pull a line that is low: `laws`
+pub mod Pullers
+-- what the last lines tell of the buses that show a capture: `laws`
+pub mod EndTells
 -- what is answered of a capture, and the buses that show it: `laws`
 pub mod Refused
 -- what is known and written, one thing that was said after the other: `probes`

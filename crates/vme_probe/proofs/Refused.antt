@@ -17,10 +17,11 @@ use Rattle.vme_probe.specs.Knowing.{CannotBegin, CannotStart, IsUnbegun, IsStopp
 use Rattle.vme_probe.specs.Naming.{IsRefused, NamesAll}
 use Rattle.vme_probe.specs.Probing.{IsImpossibleAtEnd, IsPossible as IsPossibleText, Probes, StopsIn}
 use Rattle.vme_captures.specs.Feeding.{probes_of}
+use Rattle.vme_probe.proofs.EndTells.{tells_all}
 use Rattle.vme_probe.proofs.Judged.{begun}
 use Rattle.vme_probe.proofs.Makers.{names, stopped}
 use Rattle.vme_probe.proofs.Said.{AllSaid, all_said, later}
-use Rattle.vme_probe.proofs.Tied.{are_probed, head_says}
+use Rattle.vme_probe.proofs.Tied.{Tied, are_probed, head_says, tied_end}
 
 -- what was read first was said in lines without a fault
 read_first : (p : Plan) (bytes : List ℕ) (said others : List Entry) → (read_of p bytes).entries ≡ reverse said ++ others → AllSaid p said
@@ -75,9 +76,17 @@ module _ (p : Plan) (ok : IsAccepted p) where
           lines = has.lines;
           names = names p ok x.version x.said all has.before has.waits has.lines has.judged;
           last = x.is.last;
+          tells = tells_all p ok x.version x.said all x.is.after
+              (subst (λ k. Tied p ok x.version x.said k) (sym (same_known has.known x.is.after has.sample has.waits (none_wait p x.version x.said has.before has.waits has.lines has.judged) has.takes))
+              (tied_end p ok x.version x.said all has.before has.waits has.lines has.judged has.known has.begun))
+              x.is.last x.is.ends;
           is = x.is.is ∙ ap (λ l. l ++ x.is.last) (has.is ∙ (ap (λ l. has.lines ++ l) (nothing_more has.known x.is.after has.sample has.waits (none_wait p x.version x.said has.before has.waits has.lines has.judged) has.takes) ∙ append-nil has.lines));
         }
       where
+        same_known : (old new : Known) (lines : List ℕ) (waits : List SeenChange) → waits ≡ [] → TakesSample p old waits new lines → new ≡ old
+        same_known old new lines [] is h = h.0
+        same_known old new lines (s ∷ waits) is h = absurd (none_more s waits is)
+
         nothing_more : (old new : Known) (lines : List ℕ) (waits : List SeenChange) → waits ≡ [] → TakesSample p old waits new lines → lines ≡ []
         nothing_more old new lines [] is h = h.1
         nothing_more old new lines (s ∷ waits) is h = absurd (none_more s waits is)

@@ -56,7 +56,7 @@ true_false h = cc
 -- ---- the head
 
 -- no change was said, as no moment was
-no_changes : (p : Plan) (said : List Entry) → AllSaid p said → last_moment said ≡ None → changes said ≡ []
+pub no_changes : (p : Plan) (said : List Entry) → AllSaid p said → last_moment said ≡ None → changes said ≡ []
 no_changes p [] all none = refl
 no_changes p (entry.Pin q ∷ said) all none = no_changes p said all.1 none
 no_changes p (entry.Running ∷ said) all none = no_changes p said all.1 none
@@ -74,7 +74,7 @@ turned : (a b : Signal) → is_same_signal a b ≡ true → is_same_signal b a �
 turned a b same = subst (λ x. is_same_signal x a ≡ true) (signal_same a b same) (subst (λ x. is_same_signal a x ≡ true) (sym (signal_same a b same)) same)
 
 -- what the head says is low
-low_at : (p : Plan) (said : List Entry) → AllSaid p said → last_moment said ≡ None → (x : Signal) → is_left_low said x ≡ is_among (lows said) x
+pub low_at : (p : Plan) (said : List Entry) → AllSaid p said → last_moment said ≡ None → (x : Signal) → is_left_low said x ≡ is_among (lows said) x
 low_at p [] all none x = refl
 low_at p (entry.Pin q ∷ said) all none x = low_at p said all.1 none x
 low_at p (entry.Running ∷ said) all none x = low_at p said all.1 none x
@@ -105,7 +105,7 @@ strobe_high p (entry.Change c ∷ said) all = strobe_high p said all.1
 
 -- ---- the pins
 
-probe_found : (p : Plan) (said : List Entry) (g : Segment) (qs : List Pin) → probe_at (map (probe_of p said) qs) g ≡ option_map (probe_of p said) (pin_on p qs g)
+pub probe_found : (p : Plan) (said : List Entry) (g : Segment) (qs : List Pin) → probe_at (map (probe_of p said) qs) g ≡ option_map (probe_of p said) (pin_on p qs g)
 probe_found p said g [] = refl
 probe_found p said g (q ∷ qs) = by_test (is_same_segment (wire_of p q) g) (probe_found p said g qs)
   where
@@ -117,7 +117,7 @@ probe_found p said g (q ∷ qs) = by_test (is_same_segment (wire_of p q) g) (pro
 not_zero : (s : ℕ) → (suc s == 0) ≡ false
 not_zero s = grind (arith, nat_tests)
 
-one_segment : (c : ChainId) (s : ℕ) → segment_of c s ≡ segment_at c s
+pub one_segment : (c : ChainId) (s : ℕ) → segment_of c s ≡ segment_at c s
 one_segment c zero = refl
 one_segment c (suc s) = ap (λ b. record { chain = c; place = if b then None else Some (suc s) }) (not_zero s)
 
@@ -164,7 +164,7 @@ module _ (p : Plan) (ok : IsAccepted p) where
           let most = range.most in
           omega (arith, to, same, most)
 
-  no_pin_beyond : (qs : List Pin) (c : ChainId) (s : ℕ) → 22 ≤ s → pin_on p qs (segment_at c s) ≡ None
+  pub no_pin_beyond : (qs : List Pin) (c : ChainId) (s : ℕ) → 22 ≤ s → pin_on p qs (segment_at c s) ≡ None
   no_pin_beyond qs c zero far = absurd (omega arith)
   no_pin_beyond qs c (suc s) far = by_pin (pin_on p qs (segment_at c (suc s))) refl
     where
@@ -314,3 +314,8 @@ module _ (p : Plan) (ok : IsAccepted p) where
   tied v (entry.Change c ∷ said) all k waits text h =
       subst (λ x. Tied v (entry.Change c ∷ said) x) (some_same h.3 k (sym h.6))
       (at_change v said c h.0 h.3 h.5.0.drivers (tied v said all.1 h.0 h.1 h.2 h.4) h.5.0.follows)
+
+  -- at the end of a capture
+  pub tied_end : (v : Version) (said : List Entry) → AllSaid p said → (before : Option Known) (waits : List SeenChange) (text : List ℕ) → Judged p v None said before waits text → (k : Known) → Begun p v said before k → Tied v said k
+  tied_end v said all None waits text judged k b = at_head v said all (begun p v None said waits text judged) k b
+  tied_end v said all (Some j) waits text judged k b = subst (λ x. Tied v said x) b (tied v said all j waits text judged)

@@ -32,6 +32,10 @@ ghost use Rattle.vme_standings.specs.declared.standings.Standings.{Standings};
 /// it in some list of edges that keeps the rules and shows what was captured up to there. If it is
 /// impossible, there is no such list for what was captured up to the change that is refused, or for
 /// the head. Each change is a sample of its own here.
+///
+/// The last lines of a possible capture leave out no list of edges that keeps the rules and shows
+/// all of it: each line of theirs has what is so behind the list, and each change that may be seen
+/// next has its line.
 pub fn no_legal_bus_is_left_out()
     ensures possible { (p : Plan) (bytes : List ℕ) (s : Streams) → IsAccepted p
         → Probes p None bytes s (Ok Done)
