@@ -21,6 +21,7 @@ use Rattle.vme_captures.specs.Changes.{seen}
 use Rattle.vme_captures.specs.Feeding.{probes_of}
 use Rattle.vme_captures.specs.Possible.{Explains}
 use Rattle.vme_captures.specs.Reading.{capture_of, changes, pins}
+use Rattle.vme_bus.specs.declared.sets.SlotSet.{SlotSet}
 use Rattle.vme_bus.specs.Sets.{has}
 use Rattle.vme_standings.specs.declared.phases.GrantPhase.TheVariants.{Held}
 use Rattle.vme_standings.specs.declared.standings.Drivers.{Drivers}
@@ -39,9 +40,10 @@ use Rattle.vme_probe.specs.declared.judging.Known.{Known}
 use Rattle.vme_probe.specs.Ends.{Coming, next_changes, standing_text, waits_at}
 use Rattle.vme_probe.specs.Knowing.{Ends}
 use Rattle.vme_probe.specs.Lines.{may_come_line, places_text, slot_text, slots_below, slots_text}
-use Rattle.vme_probe.specs.Naming.{NamesNext, TellsAll, coming_text}
+use Rattle.vme_probe.specs.Naming.{NamesNext, Tells, TellsAll, Told, coming_text, last_text}
 use Rattle.vme_probe.proofs.NextLines.{IsAmong, line_next}
-use Rattle.vme_probe.proofs.NextPins.{line_there, pin_next}
+use Rattle.vme_probe.proofs.NextPins.{ArePinsAsSaid, line_there, pin_next}
+use Rattle.vme_probe.proofs.PinLevels.{pin_level}
 use Rattle.vme_probe.proofs.Pullers.{asker, puller}
 use Rattle.vme_probe.proofs.Said.{AllSaid}
 use Rattle.vme_probe.proofs.Tied.{Tied}
@@ -58,8 +60,8 @@ none_there : {X : Type 0} (x : X) → Contains {X = X} [] x → ⊥
 none_there x (k, less, at) = omega (arith, less)
 
 -- who may make a change, as they are listed
-abbrev Told : Plan → Probed → Standings → List (Change × Drivers) → Change → Type 0
-Told p probed st all c = (d : Drivers) × AreDrivers p probed st c d × Contains all (c, d)
+abbrev Listed : Plan → Probed → Standings → List (Change × Drivers) → Change → Type 0
+Listed p probed st all c = (d : Drivers) × AreDrivers p probed st c d × Contains all (c, d)
 
 lists : (p : Plan) (probed : Probed) (st : Standings) (cs : List Change) (text : List ℕ) → Coming p probed st cs text → Lists p probed st cs text
 lists p probed st [] text is = record {
@@ -75,14 +77,14 @@ lists p probed st (k ∷ cs) text (d, others, drivers, coming, is) =
       each = λ c there. by_place c (Contains-append_cases (k ∷ []) cs c there) rest.all rest.each;
     }
   where
-    head : (c : Change) (all : List (Change × Drivers)) → Contains {X = Change} [] c ⊎ (k ≡ c) → Told p probed st ((k, d) ∷ all) c
+    head : (c : Change) (all : List (Change × Drivers)) → Contains {X = Change} [] c ⊎ (k ≡ c) → Listed p probed st ((k, d) ∷ all) c
     head c all (inl nay) = absurd (none_there c nay)
-    head c all (inr same) = subst (Told p probed st ((k, d) ∷ all)) same (d, drivers, first all)
+    head c all (inr same) = subst (Listed p probed st ((k, d) ∷ all)) same (d, drivers, first all)
       where
         first : (all : List (Change × Drivers)) → Contains ((k, d) ∷ all) (k, d)
         first all = Contains-append_left ((k, d) ∷ []) all (k, d) (Contains-push [] (k, d))
 
-    by_place : (c : Change) → Contains (k ∷ []) c ⊎ Contains cs c → (all : List (Change × Drivers)) → ((x : Change) → Contains cs x → Told p probed st all x) → Told p probed st ((k, d) ∷ all) c
+    by_place : (c : Change) → Contains (k ∷ []) c ⊎ Contains cs c → (all : List (Change × Drivers)) → ((x : Change) → Contains cs x → Listed p probed st all x) → Listed p probed st ((k, d) ∷ all) c
     by_place c (inl here) all each = head c all (Contains-push_cases [] k c here)
     by_place c (inr there) all each =
         let t = each c there in
@@ -114,85 +116,102 @@ no_slot test (suc n) s none less = by_place (s == n) refl (parts (slots_below te
 
 -- ---- all of it
 
-module _ (p : Plan) (ok : IsAccepted p) (version : Version) (said : List Entry) (all : AllSaid p said) (k : Known)
-    (t : Tied p ok version said k) (text : List ℕ) (ends : Ends p k (probes_of p said) text) where
-  covers : (g h : List Edge) → Explains p (capture_of version said) g h → Covers p (pins said) (h ++ g) ends.hidden
-  covers g h x =
-      explained p ok t.probed (capture_of version said) t.version t.probes g x.begins t.first t.starts h x.legal (changes said) x.shows
-      k.standings ends.hidden t.follows (subst (λ y. HasMoved p y k.standings ends.hidden) t.probed_is ends.moved)
+module _ (p : Plan) (ok : IsAccepted p) (probed : Probed) (said : List Entry) (k : Known) (probed_is : k.probed ≡ probed) (text : List ℕ) (ends : Ends p k (probes_of p said) text) where
+  abbrev st : Standings
+  st = ends.hidden
 
-  -- the boards that hold the bus
-  held : (g h : List Edge) (s : ℕ) → Explains p (capture_of version said) g h → drive (h ++ g) (Slot s) Bbsy ≡ true → (s < 22) × (has ends.is.stands.holders s ≡ true)
-  held g h s x on =
-      let c = covers g h x in
-      let f = held_from p (h ++ g) s on c.phases.phase c.phases.is_in in
-      let there = in_table version p ok (h ++ g) x.legal c.phases.phase c.phases.is_in in
-      let less = few f.0 (subst (λ q. is_in_table q ≡ true) f.1 there) in
-      (less, ends.is.stands.holders_are.all s f.0 less (subst (λ q. has_phase ends.hidden.phases q ≡ true) f.1 c.phases.member))
-    where
-      few : (first : ℕ) → is_in_table (Held s first) ≡ true → s < 22
-      few first is = let lt = (and_parts (nat_lt s 22) (nat_lt first 22) is).0 in grind (arith, nat_tests)
+  abbrev holders : SlotSet
+  holders = ends.is.stands.holders
 
   -- what comes next
-  coming : Lists p k.probed ends.hidden (next_changes ends.hidden (probes_of p said)) ends.is.adds.text
-  coming = lists p k.probed ends.hidden (next_changes ends.hidden (probes_of p said)) ends.is.adds.text ends.is.adds.coming
+  coming : Lists p k.probed st (next_changes st (probes_of p said)) ends.is.adds.text
+  coming = lists p k.probed st (next_changes st (probes_of p said)) ends.is.adds.text ends.is.adds.coming
 
-  module _ (g h : List Edge) (e : Edge) (v : Change) (x : Explains p (capture_of version said) g h) (legal : IsLegal version p (e ∷ (h ++ g))) (s : seen p (pins said) (h ++ g) e ≡ Some v) where
-    among : IsAmong (next_changes ends.hidden (probes_of p said)) v
-    among = by_signal v.signal refl
-      where
-        by_signal : (y : Signal) → v.signal ≡ y → IsAmong (next_changes ends.hidden (probes_of p said)) v
-        by_signal (signal.Line l) is =
-            let a = line_next version p ok (pins said) (h ++ g) e v legal s ends.hidden (covers g h x) l is in
-            record { change = a.change; there = line_there ends.hidden (probes_of p said) a.change a.there; agrees = a.agrees }
-        by_signal (signal.Pin q) is = pin_next p ok version said all g h x e v s q is ends.hidden
-
-    next : NamesNext coming.all v e.driver
-    next =
-        let told = coming.each among.change among.there in
-        let step = seen_step t.probed p ok (pins said) (h ++ g) e v (subst (λ y. IsLegal y p (e ∷ (h ++ g))) t.version legal) s ends.hidden (covers g h x) among.change among.agrees in
-        let by = step.by told.0 (subst (λ y. AreDrivers p y ends.hidden among.change told.0) t.probed_is told.1) in
-        record {
-          change = among.change;
-          drivers = told.0;
-          there = told.2;
-          agrees = among.agrees;
-          some = somebody told.0 e.driver by;
-          among = by;
-        }
-
-  pub tells_all : TellsAll p (capture_of version said) text
-  unfolding slots_text
-  tells_all = record {
-    told = record {
-      st = ends.hidden;
-      holders = ends.is.stands.holders;
-      nowhere = ends.is.stands.places_are.nowhere;
-      count = k.changes;
-      coming = coming.all;
-    };
-    is = ends.is.adds.added ∙ ap (λ l. ends.is.standing ++ l) coming.is ∙ ap (λ l. l ++ coming_text coming.all) standing_is;
-    tells = λ g h x. record {
-      holder = λ s on. (held g h s x on).1;
-      free = λ none s. is_false (drive (h ++ g) (Slot s) Bbsy)
-          (λ on.
-          let y = held g h s x on in
-          never (has ends.is.stands.holders s) y.1 (no_slot (has ends.is.stands.holders) 22 s none y.0));
-      granted = λ n s at. grant_told p ok (h ++ g) (pins said) ends.hidden (covers g h x) n s at;
-      none = λ nay.
-          let q = nowhere_told p ok (h ++ g) (pins said) ends.hidden (covers g h x) version x.legal nay in
-          ends.is.stands.places_are.nowhere_is.all q.0 q.1 q.2 q.3;
-      addresser = λ s on. (covers g h x).addressers s on;
-      shown = λ c low is. (covers g h x).shown.shown c low is;
-      quiet = λ high. (covers g h x).shown.high high;
-      levels = λ l on. (covers g h x).levels.shared l on;
-      asker = λ s low. asker version p ok (pins said) (h ++ g) x.legal ends.hidden (covers g h x) s low;
-      puller = λ s low. puller version p ok (pins said) (h ++ g) x.legal ends.hidden (covers g h x) s low;
-      next = λ e v legal s. next g h e v x legal s;
-    };
+  abbrev told : Told
+  told = record {
+    st = st;
+    holders = holders;
+    nowhere = ends.is.stands.places_are.nowhere;
+    count = k.changes;
+    coming = coming.all;
   }
+
+  text_is : text ≡ last_text p told
+  text_is = ends.is.adds.added ∙ ap (λ l. ends.is.standing ++ l) coming.is ∙ ap (λ l. l ++ coming_text coming.all) standing_is
     where
-      standing_is : ends.is.standing ≡ standing_text p ends.hidden ends.is.stands.holders (places_text ends.is.stands.places_are.nowhere (waits_at p ends.hidden.phases)) k.changes
+      standing_is : ends.is.standing ≡ standing_text p st holders (places_text ends.is.stands.places_are.nowhere (waits_at p st.phases)) k.changes
       standing_is =
           ends.is.stands.is
-          ∙ ap (λ l. standing_text p ends.hidden ends.is.stands.holders l k.changes) ends.is.stands.places_are.is
+          ∙ ap (λ l. standing_text p st holders l k.changes) ends.is.stands.places_are.is
+
+  -- a bus that what is known covers
+  module _ (h : List Edge) (legal : IsLegal probed.version p h) (covers : Covers p (pins said) h st) where
+    -- the boards that hold the bus
+    held : (s : ℕ) → drive h (Slot s) Bbsy ≡ true → (s < 22) × (has holders s ≡ true)
+    held s on =
+        let f = held_from p h s on covers.phases.phase covers.phases.is_in in
+        let there = in_table probed.version p ok h legal covers.phases.phase covers.phases.is_in in
+        let less = few f.0 (subst (λ q. is_in_table q ≡ true) f.1 there) in
+        (less, ends.is.stands.holders_are.all s f.0 less (subst (λ q. has_phase st.phases q ≡ true) f.1 covers.phases.member))
+      where
+        few : (first : ℕ) → is_in_table (Held s first) ≡ true → s < 22
+        few first is = let lt = (and_parts (nat_lt s 22) (nat_lt first 22) is).0 in grind (arith, nat_tests)
+
+    module _ (levels : ArePinsAsSaid p said h) where
+      module _ (e : Edge) (v : Change) (allowed : IsLegal probed.version p (e ∷ h)) (s : seen p (pins said) h e ≡ Some v) where
+        among : IsAmong (next_changes st (probes_of p said)) v
+        among = by_signal v.signal refl
+          where
+            by_signal : (y : Signal) → v.signal ≡ y → IsAmong (next_changes st (probes_of p said)) v
+            by_signal (signal.Line l) is =
+                let a = line_next probed.version p ok (pins said) h e v allowed s st covers l is in
+                record { change = a.change; there = line_there st (probes_of p said) a.change a.there; agrees = a.agrees }
+            by_signal (signal.Pin q) is = pin_next p ok said h levels e v s q is st
+
+        next : NamesNext coming.all v e.driver
+        next =
+            let drivers = coming.each among.change among.there in
+            let step = seen_step probed p ok (pins said) h e v allowed s st covers among.change among.agrees in
+            let by = step.by drivers.0 (subst (λ y. AreDrivers p y st among.change drivers.0) probed_is drivers.1) in
+            record {
+              change = among.change;
+              drivers = drivers.0;
+              there = drivers.2;
+              agrees = among.agrees;
+              some = somebody drivers.0 e.driver by;
+              among = by;
+            }
+
+      tells : Tells p probed.version (pins said) h told
+      unfolding slots_text
+      tells = record {
+        holder = λ s on. (held s on).1;
+        free = λ none s. is_false (drive h (Slot s) Bbsy) (λ on. let y = held s on in never (has holders s) y.1 (no_slot (has holders) 22 s none y.0));
+        granted = grant_told p ok h (pins said) st covers;
+        none = λ nay.
+            let q = nowhere_told p ok h (pins said) st covers probed.version legal nay in
+            ends.is.stands.places_are.nowhere_is.all q.0 q.1 q.2 q.3;
+        addresser = covers.addressers;
+        shown = covers.shown.shown;
+        quiet = covers.shown.high;
+        levels = covers.levels.shared;
+        asker = asker probed.version p ok (pins said) h legal st covers;
+        puller = puller probed.version p ok (pins said) h legal st covers;
+        next = next;
+      }
+
+-- what is known behind a whole capture covers each bus that shows it
+pub tells_all : (p : Plan) (ok : IsAccepted p) (version : Version) (said : List Entry) → AllSaid p said → (k : Known) → Tied p ok version said k → (text : List ℕ) → Ends p k (probes_of p said) text
+    → TellsAll p (capture_of version said) text
+tells_all p ok version said all k t text ends = record {
+  told = told p ok t.probed said k t.probed_is text ends;
+  is = text_is p ok t.probed said k t.probed_is text ends;
+  tells = λ g h x.
+      subst (λ y. Tells p y (pins said) (h ++ g) (told p ok t.probed said k t.probed_is text ends)) (sym t.version)
+      (tells p ok t.probed said k t.probed_is text ends (h ++ g) (subst (λ y. IsLegal y p (h ++ g)) t.version x.legal) (covers g h x) (pin_level p ok version said all g h x));
+}
+  where
+    covers : (g h : List Edge) → Explains p (capture_of version said) g h → Covers p (pins said) (h ++ g) ends.hidden
+    covers g h x =
+        explained p ok t.probed (capture_of version said) t.version t.probes g x.begins t.first t.starts h x.legal (changes said) x.shows
+        k.standings ends.hidden t.follows (subst (λ y. HasMoved p y k.standings ends.hidden) t.probed_is ends.moved)

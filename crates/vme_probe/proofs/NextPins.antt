@@ -8,7 +8,6 @@ use Rattle.std.proofs.lemmas.List.Elements.{Contains-append_left, Contains-appen
 use Rattle.vme_model.specs.declared.sets.ChainId.{ChainId}
 use Rattle.vme_model.specs.declared.sets.ChainId.TheVariants.{Bg0, Bg1, Bg2, Bg3, Iack}
 use Rattle.vme_model.specs.declared.signals.Edge.{Edge}
-use Rattle.vme_model.specs.declared.signals.Version.{Version}
 use Rattle.vme_model.specs.declared.signals.Wire.{Wire}
 use Rattle.vme_model.specs.declared.signals.Wire.TheVariants as wire
 use Rattle.vme_model.specs.declared.boards.Row.{Row}
@@ -24,8 +23,7 @@ use Rattle.vme_captures.specs.declared.signals.Signal.TheVariants as signal
 use Rattle.vme_captures.specs.declared.signals.Value.{Value}
 use Rattle.vme_captures.specs.Changes.{agrees, are_values_of, is_low, is_same_way, seen, segment_of, signal_on, value_at}
 use Rattle.vme_captures.specs.Feeding.{probe_of, probes_of}
-use Rattle.vme_captures.specs.Possible.{Explains}
-use Rattle.vme_captures.specs.Reading.{capture_of, is_left_low, pins}
+use Rattle.vme_captures.specs.Reading.{is_left_low, pins}
 use Rattle.vme_captures.specs.Signals.{is_same_signal}
 use Rattle.vme_captures.specs.Wires.{pin_on, wire_of}
 use Rattle.vme_standings.specs.declared.standings.Standings.{Standings}
@@ -38,8 +36,7 @@ use Rattle.vme_standings.proofs.Tests.{both}
 use Rattle.vme_probe.specs.Ends.{next_changes, next_lines, next_of_probe, next_pins, pins_below}
 use Rattle.vme_probe.specs.Pins.{probe_at, segment_at as segment_of_slot}
 use Rattle.vme_probe.proofs.NextLines.{IsAmong, turns, way_self}
-use Rattle.vme_probe.proofs.PinLevels.{pin_level, pin_self, seen_turns}
-use Rattle.vme_probe.proofs.Said.{AllSaid}
+use Rattle.vme_probe.proofs.PinLevels.{pin_self, seen_turns}
 use Rattle.vme_probe.proofs.Tied.{no_pin_beyond, one_segment, probe_found}
 
 -- ---- the lists
@@ -105,10 +102,13 @@ no_value p h e wire.AddressStrobe r g f is = absurd (cc)
 no_value p h e wire.Dtack r g f is = absurd (cc)
 no_value p h e w r g f is = refl
 
-module _ (p : Plan) (ok : IsAccepted p) (version : Version) (said : List Entry) (all : AllSaid p said) (g h : List Edge) (x : Explains p (capture_of version said) g h)
-    (e : Edge) (v : Change) (s : seen p (pins said) (h ++ g) e ≡ Some v) (q : Pin) (is : v.signal ≡ signal.Pin q) where
+-- what was said of the pins is how they stand
+abbrev pub ArePinsAsSaid : Plan → List Entry → List Edge → Type 0
+ArePinsAsSaid p said h = (q : Pin) → pin_on p (pins said) (wire_of p q) ≡ Some q → is_left_low said (signal.Pin q) ≡ is_low p h (signal.Pin q)
+
+module _ (p : Plan) (ok : IsAccepted p) (said : List Entry) (h : List Edge) (levels : ArePinsAsSaid p said h) (e : Edge) (v : Change) (s : seen p (pins said) h e ≡ Some v) (q : Pin) (is : v.signal ≡ signal.Pin q) where
   moves : segment_of e.wire (board_of p e.driver) ≡ Some (wire_of p q)
-  moves = segment_is p (pins said) (h ++ g) e v s q is
+  moves = segment_is p (pins said) h e v s q is
 
   -- the pin is the first on its wire
   found : pin_on p (pins said) (wire_of p q) ≡ Some q
@@ -116,7 +116,7 @@ module _ (p : Plan) (ok : IsAccepted p) (version : Version) (said : List Entry) 
       of_pin (pin_on p (pins said) (wire_of p q))
       (sym (ap (λ (o : Option Segment). option_map (λ y. signal.Pin y) (option_and_then (pin_on p (pins said)) o)) moves)
       ∙ sym (ap (λ (l : Option Line). signal_on p (pins said) l (segment_of e.wire (board_of p e.driver))) (no_line e.wire (board_of p e.driver) (wire_of p q) moves))
-      ∙ signal_is p (pins said) (h ++ g) e v s ∙ ap (λ y. Some y) is)
+      ∙ signal_is p (pins said) h e v s ∙ ap (λ y. Some y) is)
     where
       of_pin : (o : Option Pin) → option_map (λ y. signal.Pin y) o ≡ Some (signal.Pin q) → o ≡ Some q
       of_pin None y = absurd (cc)
@@ -148,9 +148,9 @@ module _ (p : Plan) (ok : IsAccepted p) (version : Version) (said : List Entry) 
 
   other_level : v.fall ≡ not (is_left_low said (signal.Pin q))
   other_level =
-      turns (is_low p (h ++ g) (signal.Pin q)) (is_low p (e ∷ (h ++ g)) (signal.Pin q)) v.fall
-      (differs p ok (pins said) (h ++ g) e v s (signal.Pin q) is) (seen_turns p ok (pins said) q found (h ++ g) e v s is)
-      ∙ ap (λ b. not b) (sym (pin_level p ok version said all g h x q found))
+      turns (is_low p h (signal.Pin q)) (is_low p (e ∷ h) (signal.Pin q)) v.fall
+      (differs p ok (pins said) h e v s (signal.Pin q) is) (seen_turns p ok (pins said) q found h e v s is)
+      ∙ ap (λ b. not b) (sym (levels q found))
 
   agreed : agrees (of_probe (probe_of p said q)) v ≡ true
   agreed =
@@ -158,7 +158,7 @@ module _ (p : Plan) (ok : IsAccepted p) (version : Version) (said : List Entry) 
       (both (is_same_signal (signal.Pin q) v.signal) (is_same_way (not (is_left_low said (signal.Pin q))) v.fall)
       (subst (λ y. is_same_signal (signal.Pin q) y ≡ true) (sym is) (pin_self q))
       (subst (λ b. is_same_way (not (is_left_low said (signal.Pin q))) b ≡ true) (sym other_level) (way_self (not (is_left_low said (signal.Pin q))))))
-      (subst (λ (o : Option Value). are_values_of None o ≡ true) (sym (seen_value p (pins said) (h ++ g) e v s ∙ no_value p (h ++ g) e e.wire (board_of p e.driver) (wire_of p q) e.fall moves)) refl)
+      (subst (λ (o : Option Value). are_values_of None o ≡ true) (sym (seen_value p (pins said) h e v s ∙ no_value p h e e.wire (board_of p e.driver) (wire_of p q) e.fall moves)) refl)
 
   pub pin_next : (st : Standings) → IsAmong (next_changes st (probes_of p said)) v
   unfolding next_pins
