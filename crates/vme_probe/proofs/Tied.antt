@@ -56,7 +56,7 @@ true_false h = cc
 -- ---- the head
 
 -- no change was said, as no moment was
-no_changes : (p : Plan) (said : List Entry) → AllSaid p said → last_moment said ≡ None → changes said ≡ []
+pub no_changes : (p : Plan) (said : List Entry) → AllSaid p said → last_moment said ≡ None → changes said ≡ []
 no_changes p [] all none = refl
 no_changes p (entry.Pin q ∷ said) all none = no_changes p said all.1 none
 no_changes p (entry.Running ∷ said) all none = no_changes p said all.1 none
@@ -224,7 +224,7 @@ module _ (p : Plan) (ok : IsAccepted p) where
     pub starts : StartsAs p probed (capture_of v said) first
     pub follows : Follows p probed first (changes said) k.standings
 
-  at_head : (v : Version) (said : List Entry) → AllSaid p said → last_moment said ≡ None → (k : Known) → Begins p v said k → Tied v said k
+  pub at_head : (v : Version) (said : List Entry) → AllSaid p said → last_moment said ≡ None → (k : Known) → Begins p v said k → Tied v said k
   at_head v said all none k b = record {
     probed = k.probed;
     probed_is = refl;

@@ -15,6 +15,7 @@ mod obstacles;
 mod pins;
 mod probes;
 mod request_conditions;
+pub mod sample_laws;
 mod sampled;
 mod samplings;
 mod texts;
