@@ -18,10 +18,10 @@ ghost use Rattle.vme_standings.specs.declared.standings.Drivers.{Drivers};
 ghost use Rattle.vme_standings.specs.declared.standings.Probed.{Probed};
 ghost use Rattle.vme_standings.specs.declared.standings.Standings.{Standings};
 
-/// The changes of a sample were made in some order, those of one line or pin in that of the capture.
-/// If what is known before the sample covers the bus with the edges that no probe sees, and a bus that
-/// keeps the rules shows the changes in such an order, then something is known behind all of them, and
-/// it covers the bus. So nothing covers no order: that none is known says that the bus shows none.
+/// The changes of a sample were made in some order, those of one line or pin in that of the
+/// capture. If what is known before the sample covers the bus with the edges that no probe sees, and
+/// a bus that keeps the rules shows the changes in such an order, then something is known behind all
+/// of them, and it covers the bus. If nothing is known behind them, no such bus shows them.
 ///
 /// Whoever made each of the changes in such an order is among those who are said to have made it.
 pub fn no_order_is_left_out()
@@ -48,9 +48,9 @@ pub fn no_order_is_left_out()
         → AreNamed by shows.places (sightings p pins g h) }
 {}
 
-/// So it is for samples one after the other. Each may have been made in an order of its own: what is
-/// known behind all of them covers every list of edges that shows them so. If nothing is known behind
-/// the last one, there is no such list.
+/// So it is for samples one after the other. Each may have been made in an order of its own: what
+/// is known behind all of them covers every list of edges that shows them so. If nothing is known
+/// behind the last one, there is no such list.
 pub fn samples_stay_covered()
     ensures followed { (p : Plan) (pins : List Pin) (probed : Probed) (g h : List Edge)
         (first last : Standings) (samples : List (List SeenChange)) (changes : List Change)
