@@ -68,3 +68,7 @@ pub mod Whole
 pub mod Pieces
 -- what is written of a sample: `sampled`
 pub mod SampleLines
+-- whoever may have made a change of a sample is named: `sample_laws`
+pub mod SamplesTied
+-- what is answered with `--skew` holds of all buses: `sample_laws`
+pub mod SamplesRefused

@@ -24,14 +24,14 @@ use Rattle.vme_probe.proofs.Said.{AllSaid, all_said, later}
 use Rattle.vme_probe.proofs.Tied.{Tied, are_probed, head_says, tied_end}
 
 -- what was read first was said in lines without a fault
-read_first : (p : Plan) (bytes : List ℕ) (said others : List Entry) → (read_of p bytes).entries ≡ reverse said ++ others → AllSaid p said
+pub read_first : (p : Plan) (bytes : List ℕ) (said others : List Entry) → (read_of p bytes).entries ≡ reverse said ++ others → AllSaid p said
 read_first p bytes said others are =
     let is : reverse (read_of p bytes).entries ≡ reverse others ++ said =
     ap (λ (l : List Entry). reverse l) are ∙ (reverse-append (reverse said) others
     ∙ ap (λ (l : List Entry). reverse others ++ l) (reverse-reverse said)) in
     later p (reverse others) said (subst (λ (l : List Entry). AllSaid p l) is (all_said p bytes))
 
-read_all : (p : Plan) (bytes : List ℕ) (said : List Entry) → (read_of p bytes).entries ≡ reverse said → AllSaid p said
+pub read_all : (p : Plan) (bytes : List ℕ) (said : List Entry) → (read_of p bytes).entries ≡ reverse said → AllSaid p said
 read_all p bytes said are = read_first p bytes said [] (are ∙ sym (append-nil (reverse said)))
 
 one_more : (e : Entry) (said others : List Entry) → reverse said ++ e ∷ others ≡ reverse (e ∷ said) ++ others

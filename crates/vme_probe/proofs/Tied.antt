@@ -224,7 +224,7 @@ module _ (p : Plan) (ok : IsAccepted p) where
     pub starts : StartsAs p probed (capture_of v said) first
     pub follows : Follows p probed first (changes said) k.standings
 
-  at_head : (v : Version) (said : List Entry) → AllSaid p said → last_moment said ≡ None → (k : Known) → Begins p v said k → Tied v said k
+  pub at_head : (v : Version) (said : List Entry) → AllSaid p said → last_moment said ≡ None → (k : Known) → Begins p v said k → Tied v said k
   at_head v said all none k b = record {
     probed = k.probed;
     probed_is = refl;

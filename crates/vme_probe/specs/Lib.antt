@@ -7,6 +7,8 @@ pub mod Probing
 pub mod Knowing
 -- believe: what is printed, beside the buses that keep the rules and show the capture
 pub mod Naming
+-- believe: the same with `--skew`, in whatever order the changes of a sample were made
+pub mod SampledNaming
 -- believe: what is known of the bus behind the changes of a sample, and what is written of them
 pub mod Sampled
 -- believe: the lines of the answer

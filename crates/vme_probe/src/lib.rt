@@ -16,6 +16,7 @@ mod obstacles;
 mod pins;
 mod probes;
 mod request_conditions;
+pub mod sample_laws;
 mod sampled;
 mod samplings;
 mod texts;

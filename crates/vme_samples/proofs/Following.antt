@@ -1,6 +1,6 @@
 -- Sample by sample: what is known behind them covers every list of edges that shows the changes of
 -- each in an order of its own.
-use Rattle.std.proofs.Common.{◌≡◌, ◌∙◌, ◌<◌, ℕ, List, [], ◌∷◌, ◌++◌, length, refl, sym, ap, subst, append_assoc}
+use Rattle.std.proofs.Common.{◌≡◌, ◌∙◌, ◌<◌, ℕ, List, [], ◌∷◌, ◌++◌, length, take, refl, sym, ap, subst, append_assoc}
 use Rattle.std.specs.Prelude.{Option, Some, None}
 use Rattle.vme_model.specs.Accepted.{IsAccepted}
 use Rattle.vme_model.specs.Plan.{Plan}
@@ -10,7 +10,7 @@ use Rattle.vme_model.specs.declared.signals.Version.{Version}
 use Rattle.vme_captures.specs.declared.signals.Change.{Change}
 use Rattle.vme_captures.specs.declared.signals.Pin.{Pin}
 use Rattle.vme_captures.specs.Changes.{seen}
-use Rattle.vme_captures.specs.Possible.{AgreeEach, sightings, with_sighting}
+use Rattle.vme_captures.specs.Possible.{AgreeEach, Sighting, sightings, with_sighting}
 use Rattle.vme_standings.specs.declared.standings.Probed.{Probed}
 use Rattle.vme_standings.specs.declared.standings.Standings.{Standings}
 use Rattle.vme_standings.specs.Covers.{AreProbed}
@@ -27,11 +27,12 @@ pub record Splits (p : Plan) (pins : List Pin) (g h : List Edge) (here before : 
   pub later : List Edge
   pub earlier : List Edge
   pub are : h ≡ later ++ earlier
+  pub first : take (length here) (sightings p pins g h) ≡ sightings p pins (earlier ++ g) later
   pub here_agree : AgreeEach here (sightings p pins (earlier ++ g) later)
   pub before_agree : AgreeEach before (sightings p pins g earlier)
 
 pub split : (p : Plan) (pins : List Pin) (g h : List Edge) (here before : List Change) → AgreeEach (here ++ before) (sightings p pins g h) → Splits p pins g h here before
-split p pins g h [] before agree = record { later = []; earlier = h; are = refl; here_agree = tt; before_agree = agree }
+split p pins g h [] before agree = record { later = []; earlier = h; are = refl; first = refl; here_agree = tt; before_agree = agree }
 split p pins g [] (c ∷ cs) before agree = absurd agree
 split p pins g (e ∷ h) (c ∷ cs) before agree = by_sight (seen p pins (h ++ g) e) refl agree (split p pins g h (c ∷ cs) before) (split p pins g h cs before)
   where
@@ -52,6 +53,9 @@ split p pins g (e ∷ h) (c ∷ cs) before agree = by_sight (seen p pins (h ++ g
           later = e ∷ s.later;
           earlier = s.earlier;
           are = ap (λ (l : List Edge). e ∷ l) s.are;
+          first =
+              ap (λ o. take (length (c ∷ cs)) (with_sighting e.driver o (sightings p pins g h))) is ∙ s.first
+              ∙ sym (ap (λ o. with_sighting e.driver o (sightings p pins (s.earlier ++ g) s.later)) (ap (λ l. seen p pins l e) (sym (behind s.later s.earlier s.are)) ∙ is));
           here_agree = put None is (c ∷ cs) s.later s.earlier s.are s.here_agree;
           before_agree = s.before_agree;
         }
@@ -61,6 +65,10 @@ split p pins g (e ∷ h) (c ∷ cs) before agree = by_sight (seen p pins (h ++ g
           later = e ∷ s.later;
           earlier = s.earlier;
           are = ap (λ (l : List Edge). e ∷ l) s.are;
+          first =
+              ap (λ o. take (length (c ∷ cs)) (with_sighting e.driver o (sightings p pins g h))) is
+              ∙ ap (λ (l : List Sighting). record { driver = e.driver; change = v } ∷ l) s.first
+              ∙ sym (ap (λ o. with_sighting e.driver o (sightings p pins (s.earlier ++ g) s.later)) (ap (λ l. seen p pins l e) (sym (behind s.later s.earlier s.are)) ∙ is));
           here_agree = put (Some v) is (c ∷ cs) s.later s.earlier s.are (a.0, s.here_agree);
           before_agree = s.before_agree;
         }
@@ -72,7 +80,7 @@ legal_before v p (e ∷ h) g legal = legal_before v p h g legal.1
 module _ (p : Plan) (ok : IsAccepted p) (pins : List Pin) (probed : Probed) (probes : AreProbed p pins probed.segments) (g : List Edge) (first : Standings)
     (covers : CoversHidden p pins probed g first) where
   -- edges that no probe sees leave what is known behind them
-  unseen_leaves : (h : List Edge) → IsLegal probed.version p (h ++ g) → AgreeEach [] (sightings p pins g h) → CoversHidden p pins probed (h ++ g) first
+  pub unseen_leaves : (h : List Edge) → IsLegal probed.version p (h ++ g) → AgreeEach [] (sightings p pins g h) → CoversHidden p pins probed (h ++ g) first
   unseen_leaves [] legal agree = covers
   unseen_leaves (e ∷ h) legal agree = by_sight (seen p pins (h ++ g) e) refl agree (unseen_leaves h legal.1)
     where

@@ -20,3 +20,5 @@ pub mod Reached
 pub mod Walk
 -- sample by sample: `laws`
 pub mod Following
+-- a sample of one change
+pub mod Alone
