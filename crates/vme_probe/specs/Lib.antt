@@ -33,5 +33,7 @@ pub mod Pins
 pub mod Steps
 -- words: what the parts of the reading of a capture do
 pub mod Reads
+-- words: the room for what is written behind the lines of the changes
+pub mod Rooms
 -- words: how faults are reported
 pub mod Faults

@@ -7,6 +7,7 @@ ghost use Rattle.vme_standings.specs.Standings.{is_nobody};
 ghost use Rattle.vme_probe.specs.Ends.{AddsComing, interrupt_lines, next_changes, next_cycles, next_interrupts, next_lines, next_of, next_of_probe, next_pins, next_requests, next_strobes, pulled_line, request_lines, strobe_fall};
 ghost use Rattle.vme_probe.specs.Stopped.{board_lines, board_obstacle, has_ours, is_ours_if, nobody_text, is_refused_by_ours, obstacle_if, obstacle_text, refused_text, stopped_text};
 ghost use Rattle.vme_probe.specs.Ends.{IsEnd, IsPlaces, IsStanding, are_slots, is_probe};
+ghost use Rattle.vme_probe.specs.Rooms.{report_room};
 
 use crate::conditions::obstacle;
 use crate::lines::{
@@ -48,7 +49,7 @@ fn obstacle_if(
 /// Appends the line of what stands in the way of a driver, if something does: at most 97 bytes. The
 /// result is whether that is a condition of our own rules alone.
 fn push_obstacle(report: &mut Report, driver: Driver, found: Option<Obstacle>) -> bool
-    requires { array_vec_len report.old + 97 ≤ 32768 }
+    requires { array_vec_len report.old + 97 ≤ report_room }
     ensures items { report.new.items ≡ report.old.items ++ obstacle_text driver found }
     ensures len { array_vec_len report.new ≤ array_vec_len report.old + 97 }
     ensures ours { result ≡ is_ours_if found }
@@ -73,7 +74,7 @@ fn push_of_boards(
     change: &Change,
     boards: SlotSet,
 ) -> bool
-    requires { array_vec_len report.old + 2134 ≤ 32768 }
+    requires { array_vec_len report.old + 2134 ≤ report_room }
     ensures items { report.new.items ≡ report.old.items
         ++ board_lines (board_obstacle plan.now probed.now.version before.now change.now boards) }
     ensures len { array_vec_len report.new ≤ array_vec_len report.old + 2134 }
@@ -100,7 +101,7 @@ pub(crate) fn either(a: bool, b: bool) -> bool
 /// Appends the line that says that nobody has the line or wire of a change, if that is so: at most
 /// 40 bytes.
 fn push_if_nobody(report: &mut Report, drivers: Drivers)
-    requires { array_vec_len report.old + 40 ≤ 32768 }
+    requires { array_vec_len report.old + 40 ≤ report_room }
     ensures items { report.new.items ≡ report.old.items ++ nobody_text drivers }
     ensures len { array_vec_len report.new ≤ array_vec_len report.old + 40 }
 {
@@ -123,7 +124,7 @@ pub(crate) fn push_refused(
     change: &Change,
     drivers: Drivers,
 ) -> bool
-    requires room { array_vec_len report.old + 2326 ≤ 32768 }
+    requires room { array_vec_len report.old + 2326 ≤ report_room }
     requires change { IsTrue (is_change change.now) }
     ensures items { report.new.items ≡ report.old.items
         ++ refused_text plan.now probed.now.version before.now moment change.now drivers }
@@ -177,7 +178,7 @@ fn places_of(plan: &Plan, phases: &GrantPhases) -> Places
 
 /// Appends the line of the boards that may pull a line, if it is low: at most 101 bytes.
 fn push_pulled(report: &mut Report, standings: &Standings, line: Line, pullers: SlotSet)
-    requires room { array_vec_len report.old + 101 ≤ 32768 }
+    requires room { array_vec_len report.old + 101 ≤ report_room }
     requires line { IsTrue (is_line line) }
     ensures items { report.new.items
         ≡ report.old.items ++ pulled_line standings.now line (has pullers) }
@@ -188,7 +189,7 @@ fn push_pulled(report: &mut Report, standings: &Standings, line: Line, pullers: 
 
 /// Appends the lines of the request lines that are low: at most 404 bytes.
 fn push_requests(report: &mut Report, plan: &Plan, standings: &Standings)
-    requires { array_vec_len report.old + 404 ≤ 32768 }
+    requires { array_vec_len report.old + 404 ≤ report_room }
     ensures items { report.new.items ≡ report.old.items ++ request_lines plan.now standings.now }
     ensures len { array_vec_len report.new ≤ array_vec_len report.old + 404 }
 {
@@ -204,7 +205,7 @@ fn push_requests(report: &mut Report, plan: &Plan, standings: &Standings)
 
 /// Appends the lines of the interrupt request lines that are low: at most 707 bytes.
 fn push_interrupts(report: &mut Report, plan: &Plan, standings: &Standings)
-    requires { array_vec_len report.old + 707 ≤ 32768 }
+    requires { array_vec_len report.old + 707 ≤ report_room }
     ensures items { report.new.items ≡ report.old.items ++ interrupt_lines plan.now standings.now }
     ensures len { array_vec_len report.new ≤ array_vec_len report.old + 707 }
 {
@@ -227,7 +228,7 @@ fn push_change(
     standings: &Standings,
     change: Change,
 )
-    requires room { array_vec_len report.old + 127 ≤ 32768 }
+    requires room { array_vec_len report.old + 127 ≤ report_room }
     requires change { IsTrue (is_change change) }
     ensures adds { AddsComing plan.now probed.now standings.now (change ∷ [])
         report.old.items report.new.items }
@@ -239,7 +240,7 @@ fn push_change(
 /// Appends the line of the next change of a line, which is seen with nothing, if somebody may make
 /// it: at most 127 bytes. A fall of AS* is seen with something.
 fn push_next(report: &mut Report, plan: &Plan, probed: &Probed, standings: &Standings, line: Line)
-    requires room { array_vec_len report.old + 127 ≤ 32768 }
+    requires room { array_vec_len report.old + 127 ≤ report_room }
     requires line { IsTrue (is_line line) }
     requires change { IsTrue (is_change (next_of standings.now line)) }
     ensures adds { AddsComing plan.now probed.now standings.now (next_of standings.now line ∷ [])
@@ -256,7 +257,7 @@ fn push_next(report: &mut Report, plan: &Plan, probed: &Probed, standings: &Stan
 
 /// Appends the lines of the next changes of the request lines: at most 508 bytes.
 fn push_next_requests(report: &mut Report, plan: &Plan, probed: &Probed, standings: &Standings)
-    requires { array_vec_len report.old + 508 ≤ 32768 }
+    requires { array_vec_len report.old + 508 ≤ report_room }
     ensures adds { AddsComing plan.now probed.now standings.now (next_requests standings.now)
         report.old.items report.new.items }
     ensures len { array_vec_len report.new ≤ array_vec_len report.old + 508 }
@@ -268,7 +269,7 @@ fn push_next_requests(report: &mut Report, plan: &Plan, probed: &Probed, standin
 
 /// Appends the lines of the next changes of the interrupt request lines: at most 889 bytes.
 fn push_next_interrupts(report: &mut Report, plan: &Plan, probed: &Probed, standings: &Standings)
-    requires { array_vec_len report.old + 889 ≤ 32768 }
+    requires { array_vec_len report.old + 889 ≤ report_room }
     ensures adds { AddsComing plan.now probed.now standings.now (next_interrupts standings.now)
         report.old.items report.new.items }
     ensures len { array_vec_len report.new ≤ array_vec_len report.old + 889 }
@@ -291,7 +292,7 @@ fn strobe_fall(value: Value) -> Change
 
 /// Appends the lines of the falls of AS*: at most 1,016 bytes.
 fn push_next_cycles(report: &mut Report, plan: &Plan, probed: &Probed, standings: &Standings)
-    requires { array_vec_len report.old + 1016 ≤ 32768 }
+    requires { array_vec_len report.old + 1016 ≤ report_room }
     ensures adds { AddsComing plan.now probed.now standings.now next_cycles
         report.old.items report.new.items }
     ensures len { array_vec_len report.new ≤ array_vec_len report.old + 1016 }
@@ -305,7 +306,7 @@ fn push_next_cycles(report: &mut Report, plan: &Plan, probed: &Probed, standings
 
 /// Appends the lines of the next changes of AS*: at most 1,016 bytes.
 fn push_next_strobes(report: &mut Report, plan: &Plan, probed: &Probed, standings: &Standings)
-    requires { array_vec_len report.old + 1016 ≤ 32768 }
+    requires { array_vec_len report.old + 1016 ≤ report_room }
     ensures adds { AddsComing plan.now probed.now standings.now (next_strobes standings.now)
         report.old.items report.new.items }
     ensures len { array_vec_len report.new ≤ array_vec_len report.old + 1016 }
@@ -326,7 +327,7 @@ fn push_next_pin(
     standings: &Standings,
     probe: Option<Probe>,
 )
-    requires room { array_vec_len report.old + 127 ≤ 32768 }
+    requires room { array_vec_len report.old + 127 ≤ report_room }
     requires slot { IsTrue (is_probe probe) }
     ensures adds { AddsComing plan.now probed.now standings.now (next_of_probe probe)
         report.old.items report.new.items }
@@ -352,7 +353,7 @@ fn push_next_pins(
     probes: &[Probe],
     chain: ChainId,
 )
-    requires room { array_vec_len report.old + 2794 ≤ 32768 }
+    requires room { array_vec_len report.old + 2794 ≤ report_room }
     requires slots { IsTrue (are_slots probes.now) }
     ensures adds { AddsComing plan.now probed.now standings.now (next_pins probes.now chain)
         report.old.items report.new.items }
@@ -366,7 +367,7 @@ fn push_next_pins(
 
 /// Appends the lines of the next changes of the shared lines: at most 3,048 bytes.
 fn push_next_lines(report: &mut Report, plan: &Plan, probed: &Probed, standings: &Standings)
-    requires { array_vec_len report.old + 3048 ≤ 32768 }
+    requires { array_vec_len report.old + 3048 ≤ report_room }
     ensures adds { AddsComing plan.now probed.now standings.now (next_lines standings.now)
         report.old.items report.new.items }
     ensures len { array_vec_len report.new ≤ array_vec_len report.old + 3048 }
@@ -389,7 +390,7 @@ fn push_coming(
     standings: &Standings,
     probes: &[Probe],
 )
-    requires room { array_vec_len report.old + 17018 ≤ 32768 }
+    requires room { array_vec_len report.old + 17018 ≤ report_room }
     requires slots { IsTrue (are_slots probes.now) }
     ensures { AddsComing plan.now probed.now standings.now
         (next_changes standings.now probes.now) report.old.items report.new.items }

@@ -4,6 +4,7 @@ ghost use Rattle.arrayvec.specs.ArrayVec.{array_vec_len};
 ghost use Rattle.vme_bus.specs.Sets.{has};
 ghost use Rattle.vme_captures.specs.Signals.{is_change, is_line};
 ghost use Rattle.vme_probe.specs.Lines.{change_line, cycle_line, grant_line, holder_line, impossible_line, low_line, may_come_line, none_line, or_none, ours_text, place_text, places_at, possible_line, slots_text, with_place};
+ghost use Rattle.vme_probe.specs.Rooms.{report_room};
 
 use crate::texts::{SLOTS, push_by, push_seen, push_shown, push_slots};
 use arrayvec::ArrayVec;
@@ -44,7 +45,7 @@ pub(crate) fn change_line(moment: u64, change: &Change, drivers: Drivers) -> Arr
 
 /// Appends the line of a change at a moment that nobody may have made: at most 55 bytes.
 pub(crate) fn push_none(report: &mut Report, moment: u64, change: &Change)
-    requires room { array_vec_len report.old + 55 ≤ 32768 }
+    requires room { array_vec_len report.old + 55 ≤ report_room }
     requires change { IsTrue (is_change change.now) }
     ensures items { report.new.items ≡ report.old.items ++ none_line moment change.now }
     ensures len { array_vec_len report.new ≤ array_vec_len report.old + 55 }
@@ -55,7 +56,7 @@ pub(crate) fn push_none(report: &mut Report, moment: u64, change: &Change)
 
 /// Appends that a change breaks our own rules alone, if that is so: at most 19 bytes.
 fn push_ours(report: &mut Report, is_ours: bool)
-    requires { array_vec_len report.old + 19 ≤ 32768 }
+    requires { array_vec_len report.old + 19 ≤ report_room }
     ensures items { report.new.items ≡ report.old.items ++ ours_text is_ours }
     ensures len { array_vec_len report.new ≤ array_vec_len report.old + 19 }
 {
@@ -66,7 +67,7 @@ fn push_ours(report: &mut Report, is_ours: bool)
 
 /// Appends the last line behind a change at a moment that is impossible: at most 52 bytes.
 pub(crate) fn push_impossible(report: &mut Report, moment: u64, is_ours: bool)
-    requires { array_vec_len report.old + 52 ≤ 32768 }
+    requires { array_vec_len report.old + 52 ≤ report_room }
     ensures { report.new.items ≡ report.old.items ++ impossible_line moment is_ours }
 {
     push(report, b"impossible @");
@@ -77,7 +78,7 @@ pub(crate) fn push_impossible(report: &mut Report, moment: u64, is_ours: bool)
 
 /// Appends the line that says that a capture with so many changes is possible: at most 30 bytes.
 pub(crate) fn push_possible(report: &mut Report, changes: u64)
-    requires { array_vec_len report.old + 30 ≤ 32768 }
+    requires { array_vec_len report.old + 30 ≤ report_room }
     ensures items { report.new.items ≡ report.old.items ++ possible_line changes }
     ensures len { array_vec_len report.new ≤ array_vec_len report.old + 30 }
 {
@@ -100,7 +101,7 @@ fn slots_or_none(slots: SlotSet) -> ArrayVec<u8, NAMES>
 
 /// Appends the line of the boards that may hold the bus: at most 103 bytes.
 pub(crate) fn push_holder(report: &mut Report, holders: SlotSet)
-    requires { array_vec_len report.old + 103 ≤ 32768 }
+    requires { array_vec_len report.old + 103 ≤ report_room }
     ensures items { report.new.items ≡ report.old.items ++ holder_line (has holders) }
     ensures len { array_vec_len report.new ≤ array_vec_len report.old + 103 }
 {
@@ -138,7 +139,7 @@ pub(crate) fn push_places(places: &mut Places, level: u8, boards: SlotSet)
 
 /// Appends the line of the places at which a grant may stand: at most 1,286 bytes.
 pub(crate) fn push_grant(report: &mut Report, places: &Places)
-    requires { array_vec_len report.old + 1286 ≤ 32768 }
+    requires { array_vec_len report.old + 1286 ≤ report_room }
     ensures items { report.new.items ≡ report.old.items ++ grant_line places.now.items }
     ensures len { array_vec_len report.new ≤ array_vec_len report.old + 1286 }
 {
@@ -150,7 +151,7 @@ pub(crate) fn push_grant(report: &mut Report, places: &Places)
 /// Appends the line of what AS* fell with, and of the boards that may drive it, if it is low: at
 /// most 102 bytes.
 pub(crate) fn push_cycle(report: &mut Report, shown: Option<Shown>, addressers: SlotSet)
-    requires { array_vec_len report.old + 102 ≤ 32768 }
+    requires { array_vec_len report.old + 102 ≤ report_room }
     ensures items { report.new.items ≡ report.old.items ++ cycle_line shown (has addressers) }
     ensures len { array_vec_len report.new ≤ array_vec_len report.old + 102 }
 {
@@ -168,7 +169,7 @@ pub(crate) fn push_cycle(report: &mut Report, shown: Option<Shown>, addressers: 
 
 /// Appends the line of the boards that may pull a line, if it is low: at most 101 bytes.
 pub(crate) fn push_low(report: &mut Report, is_low: bool, line: SharedLine, pullers: SlotSet)
-    requires room { array_vec_len report.old + 101 ≤ 32768 }
+    requires room { array_vec_len report.old + 101 ≤ report_room }
     requires line { IsTrue (is_line line) }
     ensures items { report.new.items ≡ report.old.items ++ low_line is_low line (has pullers) }
     ensures len { array_vec_len report.new ≤ array_vec_len report.old + 101 }
@@ -184,7 +185,7 @@ pub(crate) fn push_low(report: &mut Report, is_low: bool, line: SharedLine, pull
 /// Appends the line of a change that may come next, with those who may make it, if there is
 /// somebody: at most 127 bytes.
 pub(crate) fn push_may_come(report: &mut Report, change: &Change, drivers: Drivers)
-    requires room { array_vec_len report.old + 127 ≤ 32768 }
+    requires room { array_vec_len report.old + 127 ≤ report_room }
     requires change { IsTrue (is_change change.now) }
     ensures items { report.new.items ≡ report.old.items ++ may_come_line change.now drivers }
     ensures len { array_vec_len report.new ≤ array_vec_len report.old + 127 }

@@ -3,6 +3,7 @@ ghost use Rattle.std.specs.Prelude.{◌≡◌, ◌+◌, ◌≤◌, ◌<◌, ◌+
 ghost use Rattle.arrayvec.specs.ArrayVec.{array_vec_len};
 ghost use Rattle.vme_captures.specs.Signals.{is_change};
 ghost use Rattle.vme_samples.specs.Samples.{are_changes};
+ghost use Rattle.vme_probe.specs.Rooms.{report_room};
 ghost use Rattle.vme_probe.specs.Sampled.{AddsRefused, Refuses, placed_line, placed_lines};
 ghost use Rattle.vme_probe.specs.Steps.{IsOfStopped, SampleTaken, SeveralTaken};
 
@@ -21,7 +22,7 @@ use vme_trace::{Fault, put};
 /// Appends the line of a change with those who may have made it, if it is to be there: at most 160
 /// bytes.
 fn push_line(report: &mut Report, is_there: bool, seen: &SeenChange, drivers: Drivers)
-    requires room { array_vec_len report.old + 160 ≤ 32768 }
+    requires room { array_vec_len report.old + 160 ≤ report_room }
     requires change { IsTrue (is_change seen.now.change) }
     ensures items { report.new.items
         ≡ report.old.items ++ placed_line (Some seen.now) is_there drivers }
@@ -61,7 +62,7 @@ fn push_refused_if(
     is_there: bool,
     seen: &SeenChange,
 ) -> bool
-    requires room { array_vec_len report.old + 2326 ≤ 32768 }
+    requires room { array_vec_len report.old + 2326 ≤ report_room }
     requires change { IsTrue (is_change seen.now.change) }
     ensures adds { (text : List ℕ) × (report.new.items ≡ report.old.items ++ text)
         × Refuses plan.now probed.now.version before.now (Some seen.now) is_there text result }
