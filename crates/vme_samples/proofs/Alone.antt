@@ -56,7 +56,8 @@ single_order s (i ∷ j ∷ is) (c ∷ d ∷ cs) order =
 
 -- ---- who makes it, and what is known then
 
-module _ (p : Plan) (ok : IsAccepted p) (pins : List Pin) (probed : Probed) (probes : AreProbed p pins probed.segments) (g : List Edge) (old : Standings) (covers : CoversHidden p pins probed g old) (hidden : Standings) (moved : HasMoved p probed old hidden) (c : Change) where
+module _ (p : Plan) (ok : IsAccepted p) (pins : List Pin) (probed : Probed) (probes : AreProbed p pins probed.segments) (g : List Edge) (old : Standings) (covers : CoversHidden p pins probed g old)
+    (hidden : Standings) (moved : HasMoved p probed old hidden) (c : Change) where
   pub record Alone (h : List Edge) (xs : List Sighting) : Type 0 where
     pub over : (new : Standings) → IsBehind p probed hidden c new → CoversHidden p pins probed h new
     pub named : (d : Drivers) → AreDrivers p probed hidden c d → (is_nobody d ≡ false) × AreNamed (λ i. d) (0 ∷ []) xs

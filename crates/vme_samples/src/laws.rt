@@ -19,9 +19,10 @@ ghost use Rattle.vme_standings.specs.declared.standings.Probed.{Probed};
 ghost use Rattle.vme_standings.specs.declared.standings.Standings.{Standings};
 
 /// The changes of a sample were made in some order, those of one line or pin in that of the
-/// capture. If what is known before the sample covers the bus with the edges that no probe sees, and
-/// a bus that keeps the rules shows the changes in such an order, then something is known behind all
-/// of them, and it covers the bus. If nothing is known behind them, no such bus shows them.
+/// capture. If what is known before the sample covers the bus with the edges that no probe sees,
+/// and a bus that keeps the rules shows the changes in such an order, then something is known
+/// behind all of them, and it covers the bus. If nothing is known behind them, no such bus shows
+/// them.
 ///
 /// Whoever made each of the changes in such an order is among those who are said to have made it.
 pub fn no_order_is_left_out()
