@@ -8,6 +8,12 @@ pub mod Rising
 pub mod Requesting
 -- what stands in the way of AS*, DS*, DTACK* and BERR*: `laws`
 pub mod Cycling
+-- which phases the conditions on the grants leave: `hindered_laws`
+pub mod PhaseLemmas
+-- what stands in the way of BBSY*, BCLR* and the bus grants: `hindered_laws`
+pub mod Granting
+-- what stands in the way of the pins of the acknowledge chain: `hindered_laws`
+pub mod Acknowledging
 -- what is known of a cycle fits together: `laws`
 pub mod Fitting
 -- the lines of the changes that may come: `answers`
