@@ -246,7 +246,7 @@ segments_pin p q fall old new near h fits s there = at (is_same_chain Iack q.cha
     at false other k = fits s k
 
 -- a change of a pin leaves what is shown
-pin_shows : (c : ChainId) (place : ℕ) (fall : Bool) (v : Option Value) (x : Option Shown) → shown_behind (segment_moved c place) fall v x ≡ x
+pub pin_shows : (c : ChainId) (place : ℕ) (fall : Bool) (v : Option Value) (x : Option Shown) → shown_behind (segment_moved c place) fall v x ≡ x
 pin_shows Bg0 place fall v x = refl
 pin_shows Bg1 place fall v x = refl
 pin_shows Bg2 place fall v x = refl

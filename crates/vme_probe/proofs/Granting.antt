@@ -91,7 +91,7 @@ module _ (p : Plan) (ok : IsAccepted p) (probed : Probed) (st : Standings) (fits
           let k = one_left (is_left p st s) _ _ _ b.1 in
           let of = of_requester p ok s r e in
           let f = phase_left p st.phases (on_grants (Fails G13 GrantInLow) (SegmentLow r.level (place_before p r.level s)) ∷ on_grants (Fails G13 OwnGrantOutHigh) (SegmentHigh r.level s) ∷ []) b.0 in
-          let fit = fits.each f.phase f.near f.has in
+          let fit = fits.each f.phase f.has in
           let l = and_parts (is_low_in p r.level (place_before p r.level s) f.phase) (not (is_low_in p r.level s f.phase) && true) f.allowed in
           let m = denied (is_low_in p r.level s f.phase) (and_parts (not (is_low_in p r.level s f.phase)) true l.1).0 in
           let is = waits_here p ok r.level of.few s of.on f.phase fit.named (free_of s f.phase (fit.bbsy ∙ busy)) (run p r.level (place_before p r.level s) f.phase l.0)
@@ -116,7 +116,7 @@ module _ (p : Plan) (ok : IsAccepted p) (probed : Probed) (st : Standings) (fits
           let of = of_requester p ok s r e in
           let f = phase_left p st.phases
           (on_grants (NotLow wire.Bbsy) (HeldBy s) ∷ when_known (Fails G14 Asked) (may_end (asked st.lines) r.release) ∷ on_grants (Fails G14 GrantInHigh) (SegmentHigh r.level (place_before p r.level s)) ∷ []) k.0 in
-          let fit = fits.each f.phase f.near f.has in
+          let fit = fits.each f.phase f.has in
           let l = and_parts (is_held_by (λ b. b == s) f.phase) (not (is_low_in p r.level (place_before p r.level s) f.phase) && true) f.allowed in
           let m = denied (is_low_in p r.level (place_before p r.level s) f.phase) (and_parts (not (is_low_in p r.level (place_before p r.level s) f.phase)) true l.1).0 in
           let is = gives_up p ok r.level of.few s of.on f.phase fit.named l.0 (no_run p r.level (place_before p r.level s) f.phase (before p ok r.level of.few s of.on).seg m) in
@@ -149,7 +149,7 @@ module _ (p : Plan) (ok : IsAccepted p) (probed : Probed) (st : Standings) (fits
       let k = one_left (is_left p st 0) _ _ _ b.1 in
       let d = one_left (is_left p st 0) _ _ _ k.1 in
       let f = phase_left p st.phases (clear_falls p st) d.0 in
-      let fit = fits.each f.phase f.near f.has in
+      let fit = fits.each f.phase f.has in
       let l = and_parts (option_map_or (λ last. is_asked_above last (asked st.lines)) (last_level p f.phase) false) (are_grants_high f.phase && true) f.allowed in
       let m = and_parts (are_grants_high f.phase) true l.1 in
       never may (who.all f.phase f.near f.has (is_due (is_clear_due p (asked st.lines) f.phase) (clear_due f.phase (fit.bbsy ∙ a.0) l.0 k.0 m.0))) lacks)
@@ -177,7 +177,7 @@ module _ (p : Plan) (ok : IsAccepted p) (probed : Probed) (st : Standings) (fits
         let d = one_left (is_left p st 0) _ _ _ k.1 in
         let f = phase_left p st.phases
         (when_known (Fails G1 BusyHigh) (not (low st line.Bbsy)) ∷ on_grants (NotPicked c) (Picked (asked st.lines) c) ∷ on_grants (Fails G1 GrantsHigh) AreGrantsHigh ∷ on_grants (Fails S4 GrantsThrough) AllHigh ∷ []) d.0 in
-        let fit = fits.each f.phase f.near f.has in
+        let fit = fits.each f.phase f.has in
         let l = and_parts (option_map_or (λ last. is_picked p (asked st.lines) last c) (last_level p f.phase) false) (are_grants_high f.phase && (are_all_high f.phase && true)) f.allowed in
         let m = and_parts (are_grants_high f.phase) (are_all_high f.phase && true) l.1 in
         let n = and_parts (are_all_high f.phase) true m.1 in
@@ -188,7 +188,7 @@ module _ (p : Plan) (ok : IsAccepted p) (probed : Probed) (st : Standings) (fits
         let k = one_left (is_left p st 0) _ _ _ b.1 in
         let f = phase_left p st.phases
         (when_known (Fails G1 BusyHigh) (not (low st line.Bbsy)) ∷ on_grants (NotPicked c) (Picked (asked st.lines) c) ∷ on_grants (Fails G1 GrantsHigh) AreGrantsHigh ∷ []) k.0 in
-        let fit = fits.each f.phase f.near f.has in
+        let fit = fits.each f.phase f.has in
         let l = and_parts (option_map_or (λ last. is_picked p (asked st.lines) last c) (last_level p f.phase) false) (are_grants_high f.phase && true) f.allowed in
         let m = and_parts (are_grants_high f.phase) true l.1 in
         never may (who ∙ grant_due c f.phase f.near fit f.has (fit.bbsy ∙ denied (is_left_low st line.Bbsy) a.0) l.0 m.0 (λ two. absurd (never (is_two version) two one))) lacks)
@@ -210,7 +210,7 @@ module _ (p : Plan) (ok : IsAccepted p) (probed : Probed) (st : Standings) (fits
         let k = one_left (is_left p st place) _ _ _ b.1 in
         let on = above_zero p c place seg from in
         let f = phase_left p st.phases (on_grants (Fails G11 GrantInLow) (SegmentLow c (place_before p c place)) ∷ on_grants (Fails G11 OwnBusyHigh) (NotHeldBy place) ∷ []) b.0 in
-        let fit = fits.each f.phase f.near f.has in
+        let fit = fits.each f.phase f.has in
         let l = and_parts (is_low_in p c (place_before p c place) f.phase) (not (is_held_by (λ b. b == place) f.phase) && true) f.allowed in
         let free = denied (is_held_by (λ b. b == place) f.phase) (and_parts (not (is_held_by (λ b. b == place) f.phase)) true l.1).0 in
         let is = waits_here p ok c few place on f.phase fit.named free (run p c (place_before p c place) f.phase l.0) (no_run p c place f.phase seg (sees false was f.phase fit)) in
@@ -230,7 +230,7 @@ module _ (p : Plan) (ok : IsAccepted p) (probed : Probed) (st : Standings) (fits
         let a = one_left (is_left p st place) [] _ _ none in
         let on = above_zero p c place seg from in
         let f = phase_left p st.phases (pass_rises p c place) a.0 in
-        let fit = fits.each f.phase f.near f.has in
+        let fit = fits.each f.phase f.has in
         let high = denied (is_low_in p c (place_before p c place) f.phase) (and_parts (not (is_low_in p c (place_before p c place) f.phase)) true f.allowed).0 in
         let may = by_case f.phase fit f.has
         (goes_out p ok c few place on f.phase fit.named (run p c place f.phase (sees true was f.phase fit)) (no_run p c (place_before p c place) f.phase (before p ok c few place on).seg high)) in
@@ -260,14 +260,14 @@ module _ (p : Plan) (ok : IsAccepted p) (probed : Probed) (st : Standings) (fits
       | inl two ↦ named_if _ (λ none.
           let a = one_left (is_left p st 0) [] _ _ (rw two at none) in
           let f = phase_left p st.phases (on_grants (Fails S3 PassedTheLastBoard) (PastAll c) ∷ []) a.0 in
-          let fit = fits.each f.phase f.near f.has in
+          let fit = fits.each f.phase f.has in
           never may (who ∙ may_rise f.phase fit f.has (and_parts (is_past_all p c f.phase) true f.allowed).0 (λ _. two)) lacks)
       | inr one ↦ named_if _ (λ none.
           let a = one_left (is_left p st 0) [] _ _ (rw one at none) in
           let q = fits.some in
-          let fit = fits.each q.0 q.1 q.2 in
+          let fit = fits.each q.0 q.1 in
           let held : is_held q.0 ≡ true = fit.bbsy ∙ a.0 in
-          never may (who ∙ may_rise q.0 fit q.2 (or_left (is_held q.0) _ held) (λ free. absurd (never (is_held q.0) held free))) lacks)
+          never may (who ∙ may_rise q.0 fit q.1 (or_left (is_held q.0) _ held) (λ free. absurd (never (is_held q.0) held free))) lacks)
     ]
 
 -- ---- each change of a segment
@@ -277,10 +277,10 @@ pub record AreHindered (p : Plan) (version : Version) (st : Standings) (m : Move
   pub controller : controller_drives m ≡ true → may.controller ≡ false → is_some (first_failing (is_left p st 0) [] (moves p version st 0 m fall v)) ≡ true
   pub boards : (s : ℕ) → drives p m s ≡ true → has may.boards s ≡ false → is_some (first_failing (is_left p st s) [] (moves p version st s m fall v)) ≡ true
 
-from_zero : (place : ℕ) → nat_lt 0 place ≡ true → 0 < place
+pub from_zero : (place : ℕ) → nat_lt 0 place ≡ true → 0 < place
 from_zero place h = grind (arith, nat_tests)
 
-board_place : (place : ℕ) → nat_lt 0 place ≡ true → (place == 0) ≡ false
+pub board_place : (place : ℕ) → nat_lt 0 place ≡ true → (place == 0) ≡ false
 board_place place h = grind (arith, nat_tests)
 
 module _ (p : Plan) (ok : IsAccepted p) (probed : Probed) (st : Standings) (fits : GrantsFit p probed st) (c : ℕ) (few : c < 4) where

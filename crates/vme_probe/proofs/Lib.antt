@@ -14,6 +14,14 @@ pub mod PhaseLemmas
 pub mod Granting
 -- what stands in the way of the pins of the acknowledge chain: `hindered_laws`
 pub mod Acknowledging
+-- what is known of the acknowledge chain stays fitting together: `hindered_laws`
+pub mod ChainKept
+-- and behind a change that somebody may have made: `hindered_laws`
+pub mod ChainBehind
+-- what is known of the grants fits together: `hindered_laws`
+pub mod GrantsKept
+-- what stands in the way of any change: `hindered_laws`
+pub mod AllHindered
 -- what is known of a cycle fits together: `laws`
 pub mod Fitting
 -- the lines of the changes that may come: `answers`
