@@ -180,7 +180,7 @@ module _ (p : Plan) (ok : IsAccepted p) (probed : Probed) (old : Standings) (may
   -- ---- behind a change of a pin
 
   -- the segment may have fallen
-  FallsHere : ℕ → Type 0
+  abbrev FallsHere : ℕ → Type 0
   FallsHere place = ((place ≡ 0) × (old.fronts.waiting ≡ true)) ⊎ ((0 < place) × (has old.fronts.ends (input_place p place) ≡ true))
 
   falls_here : (place : ℕ) (x : Option Shown) → may.controller ≡ (place == 0 && (is_under_way old && old.fronts.waiting)) → PassesShown p old place x may.boards → FallsHere place

@@ -43,16 +43,7 @@ use Rattle.vme_probe.proofs.PhaseLemmas.{of_requester}
 few_of : (n : ℕ) → nat_lt n 4 ≡ true → n < 4
 few_of n h = grind (arith, nat_tests)
 
-is_few : (n : ℕ) → n < 4 → nat_lt n 4 ≡ true
-is_few n h = grind (arith, nat_tests)
-
-is_near : (n : ℕ) → n < 22 → nat_lt n 22 ≡ true
-is_near n h = grind (arith, nat_tests)
-
 -- ---- at the beginning
-
-first_in_table : (c : ℕ) → (c == 0) ≡ true → nat_lt c 4 ≡ true
-first_in_table c h = grind (arith, nat_tests)
 
 -- at power-up level 0 counts as granted last
 pub power_up : (p : Plan) (probed : Probed) (st : Standings) → IsPowerUp p st → HoldsBits st.phases → GrantsFit p probed st

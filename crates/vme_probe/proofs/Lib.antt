@@ -20,6 +20,8 @@ pub mod ChainKept
 pub mod ChainBehind
 -- what is known of the grants fits together: `hindered_laws`
 pub mod GrantsKept
+-- and stays so with the edges that no probe sees: `hindered_laws`
+pub mod GrantsHidden
 -- what stands in the way of any change: `hindered_laws`
 pub mod AllHindered
 -- what is known of a cycle fits together: `laws`

@@ -98,11 +98,18 @@ pub fn an_acknowledge_stays_fitting_together()
 {}
 
 /// What is known of the grants fits together when a capture begins, at power-up and on a running bus.
-#[tactic(auto, using(crate::proofs::GrantsKept::power_up, crate::proofs::GrantsKept::running))]
 pub fn grants_begin_fitting_together()
     ensures power_up { (p : Plan) (probed : Probed) (st : Standings) → IsPowerUp p st
         → HoldsBits st.phases → GrantsFit p probed st }
     ensures running { (p : Plan) (probed : Probed) (lines : Levels) (low : Segments)
         (st : Standings) → Runs p probed lines low st → AreInTable st.phases
         → GrantsFit p probed st }
+{}
+
+/// What is known of the grants stays fitting together with the edges that no probe sees.
+#[tactic(auto, using(crate::proofs::GrantsHidden::hidden))]
+pub fn grants_stay_fitting_together()
+    ensures hidden { (p : Plan) (probed : Probed) (old new : Standings) → IsAccepted p
+        → HasMoved p probed old new → HoldsBits new.phases → GrantsFit p probed old
+        → GrantsFit p probed new }
 {}
