@@ -1,5 +1,5 @@
-//! What holds of BBSY*, BCLR* and the daisy chains: of whoever may not have made a change, one of the
-//! change's conditions is named.
+//! What holds of BBSY*, BCLR* and the daisy chains: of whoever may not have made a change, one of
+//! the change's conditions is named.
 //!
 //! The functions do nothing. Each is a theorem, which its contract states.
 ghost use Rattle.std.specs.Prelude.{◌≡◌, false, true};
@@ -63,8 +63,8 @@ pub fn others_cannot_move_an_acknowledge()
         → AreOthersHindered p probed.version st c may }
 {}
 
-/// Whoever has the line of a change, or drives the wire of its pin, and may not have made the change,
-/// has a condition that is named, whatever the change is. What is known fits together.
+/// Whoever has the line of a change, or drives the wire of its pin, and may not have made the
+/// change, has a condition that is named, whatever the change is. What is known fits together.
 #[tactic(auto, using(crate::proofs::AllHindered::all_hindered))]
 pub fn others_are_hindered()
     ensures { (p : Plan) (probed : Probed) (st : Standings) (c : Change) (may : Drivers)
@@ -97,7 +97,8 @@ pub fn an_acknowledge_stays_fitting_together()
         → AcknowledgeFits p probed old → AcknowledgeFits p probed new }
 {}
 
-/// What is known of the grants fits together when a capture begins, at power-up and on a running bus.
+/// What is known of the grants fits together when a capture begins, at power-up and on a running
+/// bus.
 pub fn grants_begin_fitting_together()
     ensures power_up { (p : Plan) (probed : Probed) (st : Standings) → IsPowerUp p st
         → HoldsBits st.phases → GrantsFit p probed st }
