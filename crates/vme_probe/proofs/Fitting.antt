@@ -199,7 +199,7 @@ ends_line p ok old line.Berr true v new h fits = timed_out_ends p ok old old.sho
 ends_line p ok old l fall v new h fits = subst (λ f. Ends p f) (sym h) fits
 
 -- the wire of a pin of the acknowledge chain is the controller's, or that of a board with an interrupter
-wire_is : (p : Plan) → IsAccepted p → (s : ℕ) (side : Side) → 0 < unwrap_or (wire_on p Iack s side).place 0 → is_interrupter p (unwrap_or (wire_on p Iack s side).place 0) ≡ true
+pub wire_is : (p : Plan) → IsAccepted p → (s : ℕ) (side : Side) → 0 < unwrap_or (wire_on p Iack s side).place 0 → is_interrupter p (unwrap_or (wire_on p Iack s side).place 0) ≡ true
 wire_is p ok s In from = input_wire_is p ok s from
   where
     input_wire_is : (p : Plan) → IsAccepted p → (s : ℕ) → 0 < unwrap_or (upstream p Iack s) 0 → is_interrupter p (unwrap_or (upstream p Iack s) 0) ≡ true
@@ -246,7 +246,7 @@ segments_pin p q fall old new near h fits s there = at (is_same_chain Iack q.cha
     at false other k = fits s k
 
 -- a change of a pin leaves what is shown
-pin_shows : (c : ChainId) (place : ℕ) (fall : Bool) (v : Option Value) (x : Option Shown) → shown_behind (segment_moved c place) fall v x ≡ x
+pub pin_shows : (c : ChainId) (place : ℕ) (fall : Bool) (v : Option Value) (x : Option Shown) → shown_behind (segment_moved c place) fall v x ≡ x
 pin_shows Bg0 place fall v x = refl
 pin_shows Bg1 place fall v x = refl
 pin_shows Bg2 place fall v x = refl

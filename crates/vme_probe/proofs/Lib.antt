@@ -28,6 +28,22 @@ pub mod MetAcknowledges
 pub mod NeverHolds
 -- each condition in the text of a capture that is impossible: `condition_laws`
 pub mod ToldFailing
+-- which phases the conditions on the grants leave: `hindered_laws`
+pub mod PhaseLemmas
+-- what stands in the way of BBSY*, BCLR* and the bus grants: `hindered_laws`
+pub mod Granting
+-- what stands in the way of the pins of the acknowledge chain: `hindered_laws`
+pub mod Acknowledging
+-- what is known of the acknowledge chain stays fitting together: `hindered_laws`
+pub mod ChainKept
+-- and behind a change that somebody may have made: `hindered_laws`
+pub mod ChainBehind
+-- what is known of the grants fits together: `hindered_laws`
+pub mod GrantsKept
+-- and stays so with the edges that no probe sees: `hindered_laws`
+pub mod GrantsHidden
+-- what stands in the way of any change: `hindered_laws`
+pub mod AllHindered
 -- what is known of a cycle fits together: `laws`
 pub mod Fitting
 -- the lines of the changes that may come: `answers`

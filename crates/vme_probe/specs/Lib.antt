@@ -27,6 +27,8 @@ pub mod Conditions
 pub mod Holding
 -- believe: when something is named that stands in a driver's way
 pub mod Hindered
+-- believe: what is known of BBSY* and the daisy chains fits together
+pub mod ChainsFit
 -- words: the probed pins, as segments of the daisy chains
 pub mod Pins
 -- words: what the parts of a judgement do

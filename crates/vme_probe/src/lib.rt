@@ -8,6 +8,7 @@ mod conditions;
 mod cycle_conditions;
 mod demands;
 mod grant_conditions;
+pub mod hindered_laws;
 mod judging;
 pub mod laws;
 mod left;

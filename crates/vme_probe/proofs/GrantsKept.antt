@@ -1,0 +1,121 @@
+-- What is known of the grants and BBSY* fits together, and stays so: `hindered_laws`.
+use Rattle.std.proofs.Common.{◌≡◌, ◌≢◌, ◌∙◌, ◌&&◌, ◌||◌, ◌<◌, ◌≤◌, ◌⊎◌, ℕ, zero, suc, Bool, true, false, not, Option, Some, None, is_some, refl, sym, ap, subst, inl, inr, arith}
+use Rattle.std.proofs.lemmas.Bool.{and_parts, cases_Bool}
+use Rattle.std.proofs.lemmas.Bool.Decides.{nat_tests}
+use Rattle.std.specs.Prelude.{nat_lt, nat_le, ◌==◌, if◌then◌else◌, slice_index_or}
+use Rattle.std.specs.Option.{option_map_or}
+use Rattle.vme_model.specs.declared.boards.RequesterRow.{RequesterRow}
+use Rattle.vme_model.specs.declared.sets.BusLevels.{BusLevels}
+use Rattle.vme_model.specs.declared.sets.ChainId.TheVariants.{Bg0, Bg1, Bg2, Bg3, Iack}
+use Rattle.vme_model.specs.declared.signals.Version.{Version}
+use Rattle.vme_model.specs.Accepted.{IsAccepted}
+use Rattle.vme_model.specs.Plan.{Plan}
+use Rattle.vme_model.specs.Rules.{is_pick}
+use Rattle.vme_model.specs.Sets.{has_bus_level}
+use Rattle.vme_model.specs.Signals.{is_two}
+use Rattle.vme_model.proofs.Bools.{same_number}
+use Rattle.vme_bus.specs.Sets.{has}
+use Rattle.vme_captures.specs.declared.levels.Levels.{Levels}
+use Rattle.vme_captures.specs.declared.signals.Line.TheVariants as line
+use Rattle.vme_captures.specs.Levels.{is_line_left_low}
+use Rattle.vme_standings.specs.declared.phases.GrantPhase.{GrantPhase}
+use Rattle.vme_standings.specs.declared.phases.GrantPhase.TheVariants.{Idle, Granting, Held, Expired}
+use Rattle.vme_standings.specs.declared.phases.GrantPhases.{GrantPhases}
+use Rattle.vme_standings.specs.declared.segments.Segments.{Segments}
+use Rattle.vme_standings.specs.declared.standings.Probed.{Probed}
+use Rattle.vme_standings.specs.declared.standings.Standings.{Standings}
+use Rattle.vme_standings.specs.Cuts.{is_possible}
+use Rattle.vme_standings.specs.Driving.{is_left_low}
+use Rattle.vme_standings.specs.GrantChains.{end_place, is_follower, is_of_level, place_before, requester_at}
+use Rattle.vme_standings.specs.Grants.{is_picked}
+use Rattle.vme_standings.specs.Hidden.{HasMoved}
+use Rattle.vme_standings.specs.InPhase.{is_named}
+use Rattle.vme_standings.specs.LowSegments.{is_in_run, is_low_in, is_segment}
+use Rattle.vme_standings.specs.Moving.{asked}
+use Rattle.vme_standings.specs.Phases.{has_phase, is_held, is_in_table, no_slots}
+use Rattle.vme_standings.specs.Running.{IsPowerUp, Runs, is_first}
+use Rattle.vme_standings.specs.Unseen.{IsReached, has_row_for, is_unseen, leads}
+use Rattle.vme_standings.proofs.GrantPlaces.{IsBefore, above_zero, board_segment, end_last, follower_before, follower_on, near, one_level, segment_is}
+use Rattle.vme_standings.proofs.Tests.{both, is_false, never}
+use Rattle.vme_probe.specs.ChainsFit.{AgreesWithProbes, AreInTable, GrantsFit, HoldsBits, has_bit, is_expired}
+use Rattle.vme_probe.proofs.PhaseLemmas.{of_requester}
+
+few_of : (n : ℕ) → nat_lt n 4 ≡ true → n < 4
+few_of n h = grind (arith, nat_tests)
+
+-- ---- at the beginning
+
+-- at power-up level 0 counts as granted last
+pub power_up : (p : Plan) (probed : Probed) (st : Standings) → IsPowerUp p st → HoldsBits st.phases → GrantsFit p probed st
+power_up p probed st is bits = record {
+  some = (Idle 0, is.phases.idle 0 (omega arith));
+  each = at;
+}
+  where
+    low_is : (c s : ℕ) → c < 4 → has (slice_index_or st.low.grants c no_slots) s ≡ false
+    low_is zero s few = is.low Bg0 s
+    low_is (suc zero) s few = is.low Bg1 s
+    low_is (suc (suc zero)) s few = is.low Bg2 s
+    low_is (suc (suc (suc zero))) s few = is.low Bg3 s
+    low_is (suc (suc (suc (suc n)))) s few = absurd (omega arith)
+
+    none_low : (c s n : ℕ) → is_low_in p c s (Idle n) ≡ false
+    none_low c s n = is_false (is_segment p c s && false) (λ h. never false (and_parts (is_segment p c s) false h).1 refl)
+
+    at : (q : GrantPhase) → has_phase st.phases q ≡ true → AgreesWithProbes p probed st q
+    at (Idle n) there = record {
+      near = bits (Idle n) there;
+      named = refl;
+      two = λ h. absurd (never false h refl);
+      bbsy = sym (is.lines line.Bbsy);
+      shown = λ c few s to seen. none_low c s n ∙ sym (low_is c s few);
+    }
+    at (Granting c t) there =
+        let k = and_parts (nat_lt c 4) (nat_lt t 32) (bits (Granting c t) there) in
+        absurd (never (has_phase st.phases (Granting c t)) there (is.phases.granting c t (few_of c k.0) (in_row t k.1)))
+      where
+        in_row : (t : ℕ) → nat_lt t 32 ≡ true → t < 32
+        in_row t h = grind (arith, nat_tests)
+    at (Held b t) there =
+        let k = and_parts (nat_lt b 22) (nat_lt t 32) (bits (Held b t) there) in
+        absurd (never (has_phase st.phases (Held b t)) there (is.phases.held b t (in_slots b k.0) (in_row t k.1)))
+      where
+        in_row : (t : ℕ) → nat_lt t 32 ≡ true → t < 32
+        in_row t h = grind (arith, nat_tests)
+
+        in_slots : (t : ℕ) → nat_lt t 22 ≡ true → t < 22
+        in_slots t h = grind (arith, nat_tests)
+    at (Expired c t) there =
+        let k = and_parts (nat_lt c 4) (nat_lt t 32) (bits (Expired c t) there) in
+        absurd (never (has_phase st.phases (Expired c t)) there (is.phases.expired c t (few_of c k.0) (in_row t k.1)))
+      where
+        in_row : (t : ℕ) → nat_lt t 32 ≡ true → t < 32
+        in_row t h = grind (arith, nat_tests)
+
+-- a phase in which a bus can be is one of the backplane
+possible_named : (p : Plan) (version : Version) (requests : BusLevels) (q : GrantPhase) → is_possible p version requests q ≡ true → is_named p q ≡ true
+possible_named p version requests (Idle c) h = refl
+possible_named p version requests (Granting c last) h =
+    (and_parts (is_segment p c last) (not (end_place p c == 0)) (and_parts (is_segment p c last && not (end_place p c == 0)) _ h).0).0
+possible_named p version requests (Held b first) h = h
+possible_named p version requests (Expired c first) h = (and_parts (is_two version) (is_of_level p c first) h).1
+
+possible_two : (p : Plan) (version : Version) (requests : BusLevels) (q : GrantPhase) → is_possible p version requests q ≡ true → is_expired q ≡ true → is_two version ≡ true
+possible_two p version requests (Expired c first) h e = (and_parts (is_two version) (is_of_level p c first) h).0
+possible_two p version requests (Idle c) h e = absurd (never false e refl)
+possible_two p version requests (Granting c last) h e = absurd (never false e refl)
+possible_two p version requests (Held b first) h e = absurd (never false e refl)
+
+pub running : (p : Plan) (probed : Probed) (lines : Levels) (low : Segments) (st : Standings) → Runs p probed lines low st → AreInTable st.phases → GrantsFit p probed st
+running p probed lines low st is table = record {
+  some = is.some_phase;
+  each = λ q there.
+      let can = is.phases.only q (table q there) there in
+      record {
+        near = table q there;
+        named = possible_named p probed.version (asked lines) q can.possible;
+        two = possible_two p probed.version (asked lines) q can.possible;
+        bbsy = can.bbsy ∙ ap (λ l. is_line_left_low l line.Bbsy) (sym is.lines_are);
+        shown = λ c few s to seen. can.shown c few s to seen ∙ ap (λ l. has (slice_index_or l.grants c no_slots) s) (sym is.low_are);
+      };
+}
