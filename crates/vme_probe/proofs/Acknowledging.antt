@@ -103,7 +103,8 @@ module _ (p : Plan) (ok : IsAccepted p) (probed : Probed) (st : Standings) (fits
     same_slot : (s : ℕ) → (s == s) ≡ true
     same_slot s = grind (arith, nat_tests)
 
-    not_pending : (here : Bool) (r : Request) → here ≡ true → ((not here || not (is_pending r)) && true) ≡ true → may_be st.requests place r ≡ true → (may_be st.requests place request.High || may_be st.requests place request.Served) ≡ true
+    not_pending : (here : Bool) (r : Request) → here ≡ true → ((not here || not (is_pending r)) && true) ≡ true → may_be st.requests place r ≡ true
+        → (may_be st.requests place request.High || may_be st.requests place request.Served) ≡ true
     not_pending true request.High e h may = or_left _ _ may
     not_pending true request.Pending e h may = absurd (never false h refl)
     not_pending true request.Served e h may = or_true _ _ may
@@ -117,12 +118,15 @@ module _ (p : Plan) (ok : IsAccepted p) (probed : Probed) (st : Standings) (fits
         not_pending (place == place) own.request (same_slot place) own.allowed own.may
 
     -- and if the line is low, some request of it is
-    another : (boards : SlotSet) → has boards place ≡ is_on_level p n place → ((t : ℕ) → has boards t ≡ is_on_level p n t) → is_on_low_line st.lines p place ≡ true → ((t : ℕ) → t < 22 → pulls_without place st.requests boards t ≡ false) → ⊥
+    another : (boards : SlotSet) → has boards place ≡ is_on_level p n place → ((t : ℕ) → has boards t ≡ is_on_level p n t) → is_on_low_line st.lines p place ≡ true
+        → ((t : ℕ) → t < 22 → pulls_without place st.requests boards t ≡ false) → ⊥
     another boards own level low none =
-        let pulled = (and_parts (list_all (can_stand p place st.requests (up_to_level p st place n) n) places) (not (is_on_low_line st.lines p place) || list_any (can_pull p place st.requests (up_to_level p st place n) n) places) left).1 in
+        let pulled = (and_parts (list_all (can_stand p place st.requests (up_to_level p st place n) n) places)
+        (not (is_on_low_line st.lines p place) || list_any (can_pull p place st.requests (up_to_level p st place n) n) places) left).1 in
         let t = some_place (can_pull p place st.requests (up_to_level p st place n) n) (implied (is_on_low_line st.lines p place) _ pulled low) in
         let k = and_parts (is_on_level p n t.0) _ t.2 in
-        never (pulls_without place st.requests boards t.0) (both _ _ (level t.0 ∙ k.0) (by_case t.0 (or_cases (is_request_left place st.requests (up_to_level p st place n) t.0 request.Pending) _ k.1))) (none t.0 (near t.0 t.1))
+        never (pulls_without place st.requests boards t.0) (both _ _ (level t.0 ∙ k.0) (by_case t.0
+        (or_cases (is_request_left place st.requests (up_to_level p st place n) t.0 request.Pending) _ k.1))) (none t.0 (near t.0 t.1))
       where
         near : (t : ℕ) → nat_lt t 22 ≡ true → t < 22
         near t h = grind (arith, nat_tests)
@@ -131,7 +135,8 @@ module _ (p : Plan) (ok : IsAccepted p) (probed : Probed) (st : Standings) (fits
         elsewhere true h = absurd (never false h refl)
         elsewhere false h = refl
 
-        by_case : (t : ℕ) → (is_request_left place st.requests (up_to_level p st place n) t request.Pending ≡ true) ⊎ (is_request_left place st.requests (up_to_level p st place n) t request.Served ≡ true)
+        by_case : (t : ℕ) → (is_request_left place st.requests (up_to_level p st place n) t request.Pending ≡ true)
+            ⊎ (is_request_left place st.requests (up_to_level p st place n) t request.Served ≡ true)
             → ((may_be st.requests t request.Pending && not (t == place)) || may_be st.requests t request.Served) ≡ true
         by_case t (inl h) =
             let k = and_parts (may_be st.requests t request.Pending) ((not (t == place) || false) && true) h in
@@ -151,7 +156,8 @@ module _ (p : Plan) (ok : IsAccepted p) (probed : Probed) (st : Standings) (fits
 
   module _ (place : ℕ) (from : 0 < place) (near : place < 22) (probed_is : has probed.segments.acknowledge place ≡ true) (was : has st.low.acknowledge place ≡ false) where
     -- the acknowledge is at the board
-    at_board : is_some st.shown ≡ true → is_left p st place (up_to_input p st place) (on_chain (Fails G23 AcknowledgeInLow) (input_place p place) true).test ≡ true → has st.fronts.ends (input_place p place) ≡ true
+    at_board : is_some st.shown ≡ true → is_left p st place (up_to_input p st place) (on_chain (Fails G23 AcknowledgeInLow) (input_place p place) true).test ≡ true
+        → has st.fronts.ends (input_place p place) ≡ true
     at_board some h =
         let f = end_left st.fronts (up_to_input p st place) refl h in
         let k = and_parts (are_alike (nat_le (input_place p place) f.end) true) true f.allowed in
@@ -164,7 +170,8 @@ module _ (p : Plan) (ok : IsAccepted p) (probed : Probed) (st : Standings) (fits
         before : (end : ℕ) → nat_le place end ≡ false → end < place
         before end h = grind (arith, nat_tests)
 
-    pass_on : (boards : SlotSet) (x : Option Shown) → st.shown ≡ x → PassesShown p st place x boards → has boards place ≡ false → is_some (first_failing (is_left p st place) [] (passed_on p st place x)) ≡ true
+    pass_on : (boards : SlotSet) (x : Option Shown) → st.shown ≡ x → PassesShown p st place x boards → has boards place ≡ false
+        → is_some (first_failing (is_left p st place) [] (passed_on p st place x)) ≡ true
     pass_on boards None is who lacks = named_if _ (λ none.
         let a = one_left (is_left p st place) [] _ _ none in
         let b = one_left (is_left p st place) _ _ _ a.1 in
@@ -204,7 +211,8 @@ module _ (p : Plan) (ok : IsAccepted p) (probed : Probed) (st : Standings) (fits
 
 module _ (p : Plan) (ok : IsAccepted p) (probed : Probed) (st : Standings) (fits : FitsTogether p st) (chain : AcknowledgeFits p probed st) where
   by_controller : (place : ℕ) → place ≡ 0 → (fall : Bool) → has probed.segments.acknowledge place ≡ true → has st.low.acknowledge place ≡ not fall → (may : Bool)
-      → ControllerMakes p probed.version st (moved.Acknowledge place) fall may → may ≡ false → (v : Option Value) → is_some (first_failing (is_left p st 0) [] (moves p probed.version st 0 (moved.Acknowledge place) fall v)) ≡ true
+      → ControllerMakes p probed.version st (moved.Acknowledge place) fall may → may ≡ false → (v : Option Value)
+      → is_some (first_failing (is_left p st 0) [] (moves p probed.version st 0 (moved.Acknowledge place) fall v)) ≡ true
   by_controller place at true probed_is was may who lacks v =
       let head : (place == 0) ≡ true = ap (λ n. n == 0) at in
       subst (λ b. is_some (first_failing (is_left p st 0) [] (if b then start_falls st else passed_on p st 0 st.shown)) ≡ true) (sym head)
@@ -230,7 +238,8 @@ module _ (p : Plan) (ok : IsAccepted p) (probed : Probed) (st : Standings) (fits
       never (has boards place) (who place ∙ both _ _ (ended p ok probed st fits chain a.0) (own_place place (from_zero place from))) lacks))
 
   on_acknowledge : (place : ℕ) → (0 < place → place < 22) → (fall : Bool) → has probed.segments.acknowledge place ≡ true → has st.low.acknowledge place ≡ not fall
-      → (v : Option Value) (may : Drivers) → ControllerMakes p probed.version st (moved.Acknowledge place) fall may.controller → BoardsMake p probed.version st (moved.Acknowledge place) fall v may.boards
+      → (v : Option Value) (may : Drivers) → ControllerMakes p probed.version st (moved.Acknowledge place) fall may.controller
+      → BoardsMake p probed.version st (moved.Acknowledge place) fall v may.boards
       → AreHindered p probed.version st (moved.Acknowledge place) fall v may
   on_acknowledge place near fall probed_is was v may controller boards = record {
     controller = λ has_it lacks. by_controller place (same_number place 0 has_it) fall probed_is was may.controller controller lacks v;
@@ -241,13 +250,15 @@ module _ (p : Plan) (ok : IsAccepted p) (probed : Probed) (st : Standings) (fits
         (by_board place h.0 (near (from_zero place h.0)) fall probed_is was may.boards v boards (subst (λ k. has may.boards k ≡ false) same lacks));
   }
 
-on_pin : (p : Plan) → IsAccepted p → (probed : Probed) (st : Standings) → FitsTogether p st → AcknowledgeFits p probed st → (s : ℕ) (c : ChainId) (side : Side) → not (is_grant_chain c) ≡ true → (fall : Bool)
+on_pin : (p : Plan) → IsAccepted p → (probed : Probed) (st : Standings) → FitsTogether p st → AcknowledgeFits p probed st → (s : ℕ) (c : ChainId) (side : Side) → not (is_grant_chain c) ≡ true
+    → (fall : Bool)
     → has_segment probed.segments c (unwrap_or (wire_on p c s side).place 0) ≡ true → has_segment st.low c (unwrap_or (wire_on p c s side).place 0) ≡ not fall → (v : Option Value) (may : Drivers)
     → ControllerMakes p probed.version st (segment_moved c (unwrap_or (wire_on p c s side).place 0)) fall may.controller
     → BoardsMake p probed.version st (segment_moved c (unwrap_or (wire_on p c s side).place 0)) fall v may.boards
     → AreHindered p probed.version st (segment_moved c (unwrap_or (wire_on p c s side).place 0)) fall v may
 on_pin p ok probed st fits chain s Iack side is fall probed_is was v may controller boards =
-    on_acknowledge p ok probed st fits chain (unwrap_or (wire_on p Iack s side).place 0) (λ from. (near_slot p ok (unwrap_or (wire_on p Iack s side).place 0) (λ r. is_some r.interrupter) (wire_is p ok s side from)).1) fall probed_is was v may
+    on_acknowledge p ok probed st fits chain (unwrap_or (wire_on p Iack s side).place 0) (λ from.
+    (near_slot p ok (unwrap_or (wire_on p Iack s side).place 0) (λ r. is_some r.interrupter) (wire_is p ok s side from)).1) fall probed_is was v may
     controller boards
 on_pin p ok probed st fits chain s _ side is fall probed_is was v may controller boards = absurd (never false is refl)
 

@@ -20,7 +20,8 @@ use Rattle.vme_probe.proofs.Granting.{busy_hindered, clear_hindered, grants_hind
 use Rattle.vme_probe.proofs.Requesting.{requests_hindered}
 use Rattle.vme_probe.proofs.Rising.{rises_hindered}
 
-module _ (p : Plan) (probed : Probed) (st : Standings) (c : Change) (may : Drivers) (ok : IsAccepted p) (who : AreDrivers p probed st c may) (fits : AllFits p probed st) (seen : IsSeen p probed st c) (change : is_change c ≡ true) where
+module _ (p : Plan) (probed : Probed) (st : Standings) (c : Change) (may : Drivers) (ok : IsAccepted p) (who : AreDrivers p probed st c may) (fits : AllFits p probed st) (seen : IsSeen p probed st c)
+    (change : is_change c ≡ true) where
   a_request : is_of_requests c.signal ≡ true → c.fall ≡ true → AreOthersHindered p probed.version st c may
   a_request is fall = requests_hindered p probed st c may ok who fall is
 

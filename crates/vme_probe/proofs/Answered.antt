@@ -84,7 +84,8 @@ module _ (p : Plan) (skew : Option ℕ) (from to old new : Option (List ℕ)) wh
       )
 
   -- the capture has a fault behind what was read
-  module _ (bytes read : List ℕ) (input : IsInput from bytes) (consumed : Consumes from to read) (said : List Entry) (text : List ℕ) (judged : IsJudged p skew (read_of p bytes) said text) (wrote : Appends old new text) where
+  module _ (bytes read : List ℕ) (input : IsInput from bytes) (consumed : Consumes from to read) (said : List Entry) (text : List ℕ) (judged : IsJudged p skew (read_of p bytes) said text)
+      (wrote : Appends old new text) where
     pub faulty : (f : CaptureFault) → IsFaultAfter (read_of p bytes) said f → IsFaultAfter (read_of p read) said f → ProbesInput skew (streams from to old new) p (Err (fault.Capture f))
     faulty (Trace trace.Read) h (inl k) = (bytes, input, (read, consumed, said, text, k.0, judged, wrote))
     faulty (Trace trace.Read) h (inr k) = absurd (read_memory k.0)
@@ -102,7 +103,8 @@ module _ (p : Plan) (skew : Option ℕ) (from to old new : Option (List ℕ)) wh
     faulty (NoChange n) h k = (bytes, input, (said, text, h, judged, wrote))
     faulty (NoLine n) h k = (bytes, input, (said, text, h, judged, wrote))
 
-  cut : (f : Fault) (bytes : List ℕ) → IsInput from bytes → f ≡ trace.Write → (text : List ℕ) → IsToWrite p skew (read_of p bytes) text → AppendsFront old new text → ProbesInput skew (streams from to old new) p (Err (fault.Engine (engine.Trace f)))
+  cut : (f : Fault) (bytes : List ℕ) → IsInput from bytes → f ≡ trace.Write → (text : List ℕ) → IsToWrite p skew (read_of p bytes) text → AppendsFront old new text
+      → ProbesInput skew (streams from to old new) p (Err (fault.Engine (engine.Trace f)))
   cut f bytes input is text h wrote =
       subst (λ g. ProbesInput skew (streams from to old new) p (Err (fault.Engine (engine.Trace g)))) (sym is) (bytes, input, (text, h, wrote))
 
@@ -329,7 +331,8 @@ module _ (p : Plan) (skew : Option ℕ) (from to old mid new : Option (List ℕ)
   fault_flushed (fault.Engine (engine.Beyond n)) h = absurd h.2
 
   -- it could not be handed on
-  judged_cut : (g : Fault) → g ≡ trace.Write → (bytes : List ℕ) → IsInput from bytes → (said : List Entry) (text : List ℕ) → IsJudged p skew (read_of p bytes) said text → Appends old mid text → After new (fault.Engine (engine.Trace g))
+  judged_cut : (g : Fault) → g ≡ trace.Write → (bytes : List ℕ) → IsInput from bytes → (said : List Entry) (text : List ℕ) → IsJudged p skew (read_of p bytes) said text → Appends old mid text
+      → After new (fault.Engine (engine.Trace g))
   judged_cut g is bytes input said text judged wrote = cut p skew from to old new g bytes input is text (inl (said, judged)) (front_kept old mid new text wrote kept)
 
   pub fault_cut : (g : Fault) → g ≡ trace.Write → (f : ProbeFault) → After mid f → After new (fault.Engine (engine.Trace g))

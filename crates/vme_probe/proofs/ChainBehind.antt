@@ -81,7 +81,8 @@ made may some = elim (cases_Bool may.controller) [
   | inr none ↦ inr (some_bit may.boards.bits may.boards.bits (omega arith) (is_false (may.boards.bits == 0) (λ z. never (is_nobody may) (rw (none, z) refl) some)))
 ]
 
-module _ (p : Plan) (ok : IsAccepted p) (probed : Probed) (old : Standings) (may : Drivers) (by : (may.controller ≡ true) ⊎ ((s : ℕ) × (has may.boards s ≡ true))) (fits : AcknowledgeFits p probed old) where
+module _ (p : Plan) (ok : IsAccepted p) (probed : Probed) (old : Standings) (may : Drivers) (by : (may.controller ≡ true) ⊎ ((s : ℕ) × (has may.boards s ≡ true)))
+    (fits : AcknowledgeFits p probed old) where
   -- ---- behind a change of a line
 
   none_low : is_no_slot old.low.acknowledge ≡ true → (s : ℕ) → has old.low.acknowledge s ≡ false
@@ -111,7 +112,8 @@ module _ (p : Plan) (ok : IsAccepted p) (probed : Probed) (old : Standings) (may
   input_of : (s : ℕ) → 0 < s → s < 22 → input_place p s < 22
   input_of s from near = let less = input_below p ok s from in omega (arith, less, near)
 
-  answered : (v : Option Value) (x : Option Shown) → old.shown ≡ x → (new : Fronts) → may.controller ≡ false → AnswersShown p old v old.shown may.boards → ((s : ℕ) → has may.boards s ≡ true → is_some (board p s) ≡ true) → FrontsAnswered p old v x new
+  answered : (v : Option Value) (x : Option Shown) → old.shown ≡ x → (new : Fronts) → may.controller ≡ false → AnswersShown p old v old.shown may.boards
+      → ((s : ℕ) → has may.boards s ≡ true → is_some (board p s) ≡ true) → FrontsAnswered p old v x new
       → is_some x ≡ true → EndsFit probed old.low.acknowledge new
   answered v (Some (shown.Acknowledge n)) is new controller boards there h some = record {
     some = found by;
@@ -147,7 +149,8 @@ module _ (p : Plan) (ok : IsAccepted p) (probed : Probed) (old : Standings) (may
   answered v None is new controller boards there h some = absurd (never false some refl)
   answered v (Some (shown.Access t)) is new controller boards there h some = same_fronts (ap is_some is) new h
 
-  timed_out : (x : Option Shown) → old.shown ≡ x → (new : Fronts) → may.controller ≡ can_time_out p old → ((s : ℕ) → has may.boards s ≡ false) → FrontsTimedOut p old x new → is_some x ≡ true → EndsFit probed old.low.acknowledge new
+  timed_out : (x : Option Shown) → old.shown ≡ x → (new : Fronts) → may.controller ≡ can_time_out p old → ((s : ℕ) → has may.boards s ≡ false) → FrontsTimedOut p old x new → is_some x ≡ true
+      → EndsFit probed old.low.acknowledge new
   timed_out (Some (shown.Acknowledge n)) is new controller boards h some = record {
     some = (Some (last_place p), both (nat_lt (last_place p) 22) (has new.ends (last_place p)) (below_last (last_place p) near_last) h.here);
     each = front_is;
@@ -169,8 +172,10 @@ module _ (p : Plan) (ok : IsAccepted p) (probed : Probed) (old : Standings) (may
   timed_out None is new controller boards h some = absurd (never false some refl)
   timed_out (Some (shown.Access t)) is new controller boards h some = same_fronts (ap is_some is) new h
 
-  ends_line : (l : Line) (fall : Bool) (v : Option Value) (new : Fronts) → ControllerMakes p probed.version old (moved.Line l) fall may.controller → BoardsMake p probed.version old (moved.Line l) fall v may.boards
-      → ((s : ℕ) → has may.boards s ≡ true → drives p (moved.Line l) s ≡ true) → FrontsBehind p old (moved.Line l) fall v new → is_some (shown_behind (moved.Line l) fall v old.shown) ≡ true → EndsFit probed old.low.acknowledge new
+  ends_line : (l : Line) (fall : Bool) (v : Option Value) (new : Fronts) → ControllerMakes p probed.version old (moved.Line l) fall may.controller
+      → BoardsMake p probed.version old (moved.Line l) fall v may.boards
+      → ((s : ℕ) → has may.boards s ≡ true → drives p (moved.Line l) s ≡ true) → FrontsBehind p old (moved.Line l) fall v new → is_some (shown_behind (moved.Line l) fall v old.shown) ≡ true
+      → EndsFit probed old.low.acknowledge new
   ends_line line.AddressStrobe true v new controller boards there h some = begun v new controller boards h
   ends_line line.AddressStrobe false v new controller boards there h some = absurd (never false some refl)
   ends_line line.Dtack true v new controller boards there h some = answered v old.shown refl new controller boards there h some
@@ -208,7 +213,8 @@ module _ (p : Plan) (ok : IsAccepted p) (probed : Probed) (old : Standings) (may
       let board : (place == 0) ≡ false = grind (arith, nat_tests) in
       subst (λ b. (if b then old.fronts.waiting else has old.fronts.ends (input_place p place)) ≡ true) (sym board) k.1
 
-  fallen : (place : ℕ) → place < 22 → (new : Fronts) (low : SlotSet) → ((s : ℕ) → has low s ≡ (if s == place then true else has old.low.acknowledge s)) → FallsHere place → FrontsPassed p place old.fronts new → is_some old.shown ≡ true
+  fallen : (place : ℕ) → place < 22 → (new : Fronts) (low : SlotSet) → ((s : ℕ) → has low s ≡ (if s == place then true else has old.low.acknowledge s)) → FallsHere place
+      → FrontsPassed p place old.fronts new → is_some old.shown ≡ true
       → EndsFit probed low new
   fallen place near new low lows here h some = record {
     some = (Some place, both (nat_lt place 22) (has new.ends place) (below_last place near) ends.here);
@@ -243,8 +249,10 @@ module _ (p : Plan) (ok : IsAccepted p) (probed : Probed) (old : Standings) (may
   with_low : (low : SlotSet) (new : Fronts) → ((s : ℕ) → has low s ≡ has old.low.acknowledge s) → EndsFit probed old.low.acknowledge new → EndsFit probed low new
   with_low low new lows h = record { some = h.some; each = λ front end s near seen. h.each front end s near seen ∙ sym (lows s) }
 
-  ends_pin : (c : ChainId) (place : ℕ) → place < 22 → (fall : Bool) (v : Option Value) (new : Fronts) (low : SlotSet) → ((s : ℕ) → has low s ≡ (if is_same_chain Iack c && (s == place) then fall else has old.low.acknowledge s))
-      → ControllerMakes p probed.version old (segment_moved c place) fall may.controller → BoardsMake p probed.version old (segment_moved c place) fall v may.boards → FrontsBehind p old (segment_moved c place) fall v new
+  ends_pin : (c : ChainId) (place : ℕ) → place < 22 → (fall : Bool) (v : Option Value) (new : Fronts) (low : SlotSet)
+      → ((s : ℕ) → has low s ≡ (if is_same_chain Iack c && (s == place) then fall else has old.low.acknowledge s))
+      → ControllerMakes p probed.version old (segment_moved c place) fall may.controller → BoardsMake p probed.version old (segment_moved c place) fall v may.boards
+      → FrontsBehind p old (segment_moved c place) fall v new
       → is_some old.shown ≡ true → EndsFit probed low new
   ends_pin Iack place near true v new low lows controller boards h some = fallen place near new low lows (falls_here place old.shown controller boards) h some
   ends_pin Iack place near false v new low lows controller boards h some = absurd (not_shown by)
@@ -266,7 +274,8 @@ not_address : (l : Line) → is_address l ≡ false → line.AddressStrobe ≢ l
 not_address l other e = never (is_address l) (ap is_address (sym e)) other
 
 -- something is shown only while AS* is low
-line_cycle : (p : Plan) (probed : Probed) (old : Standings) (l : Line) (fall : Bool) (v : Option Value) (lines : Levels) → LinesBehind (signal.Line l) fall old.lines lines → AcknowledgeFits p probed old
+line_cycle : (p : Plan) (probed : Probed) (old : Standings) (l : Line) (fall : Bool) (v : Option Value) (lines : Levels) → LinesBehind (signal.Line l) fall old.lines lines
+    → AcknowledgeFits p probed old
     → is_some (shown_behind (moved.Line l) fall v old.shown) ≡ true → is_line_left_low lines line.AddressStrobe ≡ true
 line_cycle p probed old line.AddressStrobe true v lines h fits some = h.set
 line_cycle p probed old line.AddressStrobe false v lines h fits some = absurd (never false some refl)
@@ -294,7 +303,8 @@ behind p probed old new c may ok who some there change h fits = by_signal c.sign
         let lines_are : new.lines ≡ old.lines = (rw is at h.lines) in
         let near : unwrap_or (wire_of p q).place 0 < 22 = wire_near p q (rw is at (and_parts (is_signal c.signal) (has_value c.signal c.fall c.value) change).0) in
         let ends : is_some old.shown ≡ true → EndsFit probed new.low.acknowledge new.fronts =
-        ends_pin p ok probed old may (made may some) fits q.chain (unwrap_or (wire_of p q).place 0) near c.fall c.value new.fronts new.low.acknowledge (λ s. (rw is at h.low) Iack s) (rw is at who.controller) (rw is at who.boards)
+        ends_pin p ok probed old may (made may some) fits q.chain (unwrap_or (wire_of p q).place 0) near c.fall c.value new.fronts new.low.acknowledge (λ s. (rw is at h.low) Iack s)
+        (rw is at who.controller) (rw is at who.boards)
         (rw is at h.fronts) in
         record {
           wires = fits.wires;

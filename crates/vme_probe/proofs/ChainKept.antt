@@ -163,7 +163,8 @@ module _ (p : Plan) (ok : IsAccepted p) where
         let k = and_parts (nat_lt (suc e) 22) (has old.ends (suc e)) there in
         both (nat_lt (suc e) 22) (has new.ends (suc e)) k.0 (h.moves.others (suc e) (omega arith) (in_slots (suc e) k.0) ∙ or_left (has old.ends (suc e)) _ k.1)
 
-  fronts_hidden : (probed : Probed) (st : Standings) (v : Option Shown) (waited : Bool) (low : SlotSet) (new : Fronts) → AreOnWires p probed → FrontsHidden p probed st v waited new → EndsFit probed low st.fronts
+  fronts_hidden : (probed : Probed) (st : Standings) (v : Option Shown) (waited : Bool) (low : SlotSet) (new : Fronts) → AreOnWires p probed → FrontsHidden p probed st v waited new
+      → EndsFit probed low st.fronts
       → EndsFit probed low new
   fronts_hidden probed st (Some (shown.Acknowledge n)) true low new wires h fit = record {
     some = (fit.some.0, some_hidden probed st n st.fronts new low h wires fit.each fit.some.0 fit.some.1);

@@ -140,7 +140,8 @@ module _ (p : Plan) (ok : IsAccepted p) (version : Version) (st : Standings) (fi
       of_board None e = absurd (never false (rw e at on) refl)
       of_board (Some r) e = rw e refl
 
-  address_fall : (x : Option Value) → has_value (signal.Line line.AddressStrobe) true x ≡ true → (boards : SlotSet) → AreStarters p st x boards → (s : ℕ) → has_requester p s ≡ true → has boards s ≡ false
+  address_fall : (x : Option Value) → has_value (signal.Line line.AddressStrobe) true x ≡ true → (boards : SlotSet) → AreStarters p st x boards → (s : ℕ) → has_requester p s ≡ true
+      → has boards s ≡ false
       → is_some (first_failing (is_left p st s) [] (address_falls p st s x)) ≡ true
   address_fall None seen boards who s has_it lacks = absurd (never false seen refl)
   address_fall (Some (value.Status b)) seen boards who s has_it lacks = absurd (never false seen refl)
@@ -218,7 +219,8 @@ module _ (p : Plan) (ok : IsAccepted p) (version : Version) (st : Standings) (fi
       let left = request_of_level p s (is_on_low_line st.lines p s) st.requests ds i.level (rw found at h) s near.0 near.1 (meant (OnLevel i.level) s i found (same_slot i.level)) in
       subst (λ r. may_be st.requests s r ≡ true) (only left.request left.allowed) left.may
 
-  answer_with : (n s : ℕ) (x : Option Value) → has_value (signal.Line line.Dtack) true x ≡ true → (boards : SlotSet) → AnswersShown p st x (Some (shown.Acknowledge n)) boards → is_some (board p s) ≡ true → has boards s ≡ false
+  answer_with : (n s : ℕ) (x : Option Value) → has_value (signal.Line line.Dtack) true x ≡ true → (boards : SlotSet) → AnswersShown p st x (Some (shown.Acknowledge n)) boards
+      → is_some (board p s) ≡ true → has boards s ≡ false
       → (o : Option InterrupterRow) → interrupter_at p s ≡ o → is_some (first_failing (is_left p st s) [] (acknowledge_answered p st s n x o)) ≡ true
   answer_with n s x seen boards who stands lacks None found = named_if _ (λ none.
       let a = one_left (is_left p st s) [] _ _ (without x none) in
@@ -258,7 +260,8 @@ module _ (p : Plan) (ok : IsAccepted p) (version : Version) (st : Standings) (fi
   answer_with n s (Some (value.Shown v)) seen boards who stands lacks (Some i) found = absurd (never false seen refl)
   answer_with n s (Some value.Access) seen boards who stands lacks (Some i) found = absurd (never false seen refl)
 
-  answer_access : (t : Option ℕ) (s : ℕ) (x : Option Value) → has_value (signal.Line line.Dtack) true x ≡ true → (boards : SlotSet) → AnswersShown p st x (Some (shown.Access t)) boards → is_some (board p s) ≡ true → has boards s ≡ false
+  answer_access : (t : Option ℕ) (s : ℕ) (x : Option Value) → has_value (signal.Line line.Dtack) true x ≡ true → (boards : SlotSet) → AnswersShown p st x (Some (shown.Access t)) boards
+      → is_some (board p s) ≡ true → has boards s ≡ false
       → is_some (first_failing (is_left p st s) [] (access_answered st s t x)) ≡ true
   answer_access t s (Some (value.Shown v)) seen boards who stands lacks = absurd (never false seen refl)
   answer_access t s (Some value.Access) seen boards who stands lacks = absurd (never false seen refl)
@@ -276,7 +279,8 @@ module _ (p : Plan) (ok : IsAccepted p) (version : Version) (st : Standings) (fi
       let b = one_left (is_left p st s) _ _ _ a.1 in
       never (has boards s) (who s ∙ both _ _ (both _ _ a.0 refl) (both _ _ (turned_slots t s b.0) stands)) lacks)
 
-  answer_fall : (s : ℕ) (x : Option Value) → has_value (signal.Line line.Dtack) true x ≡ true → (boards : SlotSet) → (v : Option Shown) → st.shown ≡ v → AnswersShown p st x v boards → is_some (board p s) ≡ true → has boards s ≡ false
+  answer_fall : (s : ℕ) (x : Option Value) → has_value (signal.Line line.Dtack) true x ≡ true → (boards : SlotSet) → (v : Option Shown) → st.shown ≡ v → AnswersShown p st x v boards
+      → is_some (board p s) ≡ true → has boards s ≡ false
       → is_some (first_failing (is_left p st s) [] (answer_falls p st s x v)) ≡ true
   answer_fall s x seen boards None is who stands lacks = named_if _ (λ none.
       let a = one_left (is_left p st s) [] _ _ none in
@@ -307,7 +311,8 @@ module _ (p : Plan) (ok : IsAccepted p) (version : Version) (st : Standings) (fi
 
   -- ---- all of them
 
-  board_fall : (l : Line) (x : Option Value) → is_of_a_cycle (signal.Line l) ≡ true → has_value (signal.Line l) true x ≡ true → (boards : SlotSet) → BoardsPull p st l x boards → (s : ℕ) → drives p (moved.Line l) s ≡ true → has boards s ≡ false
+  board_fall : (l : Line) (x : Option Value) → is_of_a_cycle (signal.Line l) ≡ true → has_value (signal.Line l) true x ≡ true → (boards : SlotSet) → BoardsPull p st l x boards → (s : ℕ)
+      → drives p (moved.Line l) s ≡ true → has boards s ≡ false
       → is_some (first_failing (is_left p st s) [] (line_falls p st s l x)) ≡ true
   board_fall line.AddressStrobe x in_cycle seen boards who s has_it lacks = address_fall x seen boards who s has_it lacks
   board_fall line.DataStrobe x in_cycle seen boards who s has_it lacks = data_fall boards who s lacks
@@ -315,7 +320,8 @@ module _ (p : Plan) (ok : IsAccepted p) (version : Version) (st : Standings) (fi
   board_fall line.Berr x in_cycle seen boards who s has_it lacks = absurd (never false has_it refl)
   board_fall _ x in_cycle seen boards who s has_it lacks = absurd (never false in_cycle refl)
 
-  controller_fall : (l : Line) (x : Option Value) → is_of_a_cycle (signal.Line l) ≡ true → (may : Bool) → ControllerMakes p version st (moved.Line l) true may → controller_drives (moved.Line l) ≡ true → may ≡ false
+  controller_fall : (l : Line) (x : Option Value) → is_of_a_cycle (signal.Line l) ≡ true → (may : Bool) → ControllerMakes p version st (moved.Line l) true may → controller_drives (moved.Line l) ≡ true
+      → may ≡ false
       → is_some (first_failing (is_left p st 0) [] (line_falls p st 0 l x)) ≡ true
   controller_fall line.Berr x in_cycle may who has_it lacks = error_fall may st.shown who lacks
   controller_fall line.Bclr x in_cycle may who has_it lacks = absurd (never false in_cycle refl)

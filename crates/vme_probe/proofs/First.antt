@@ -9,7 +9,8 @@ use Rattle.vme_probe.specs.declared.demands.Test.TheVariants.{Known}
 use Rattle.vme_probe.specs.declared.obstacles.Obstacle.TheVariants.{NotLow}
 use Rattle.vme_probe.specs.Demands.{first_failing}
 
-one_passes : (leaves : List Demand → Test → Bool) (before ds : List Demand) (d : Demand) → leaves (before ++ d ∷ []) d.test ≡ true → first_failing leaves before (d ∷ ds) ≡ first_failing leaves (before ++ d ∷ []) ds
+one_passes : (leaves : List Demand → Test → Bool) (before ds : List Demand) (d : Demand) → leaves (before ++ d ∷ []) d.test ≡ true
+    → first_failing leaves before (d ∷ ds) ≡ first_failing leaves (before ++ d ∷ []) ds
 unfolding first_failing
 one_passes leaves before ds d h = rw h refl
 
@@ -17,14 +18,16 @@ one_fails : (leaves : List Demand → Test → Bool) (before ds : List Demand) (
 unfolding first_failing
 one_fails leaves before ds d h = rw h refl
 
-pub passes : (leaves : List Demand → Test → Bool) (xs : List Demand) (i : ℕ) (d : Demand) → i < length xs → leaves (take (i + 1) xs) (get_or xs i d).test ≡ true → first_failing leaves (take i xs) (drop i xs) ≡ first_failing leaves (take (i + 1) xs) (drop (i + 1) xs)
+pub passes : (leaves : List Demand → Test → Bool) (xs : List Demand) (i : ℕ) (d : Demand) → i < length xs → leaves (take (i + 1) xs) (get_or xs i d).test ≡ true
+    → first_failing leaves (take i xs) (drop i xs) ≡ first_failing leaves (take (i + 1) xs) (drop (i + 1) xs)
 passes leaves xs i d lt h =
     let more = take_more xs i d lt in
     ap (λ l. first_failing leaves (take i xs) l) (drop_more xs i d lt)
     ∙ one_passes leaves (take i xs) (drop (i + 1) xs) (get_or xs i d) (rw more at h)
     ∙ ap (λ l. first_failing leaves l (drop (i + 1) xs)) (sym more)
 
-pub fails : (leaves : List Demand → Test → Bool) (xs : List Demand) (i : ℕ) (d : Demand) → i < length xs → leaves (take (i + 1) xs) (get_or xs i d).test ≡ false → first_failing leaves (take i xs) (drop i xs) ≡ Some (get_or xs i d).obstacle
+pub fails : (leaves : List Demand → Test → Bool) (xs : List Demand) (i : ℕ) (d : Demand) → i < length xs → leaves (take (i + 1) xs) (get_or xs i d).test ≡ false
+    → first_failing leaves (take i xs) (drop i xs) ≡ Some (get_or xs i d).obstacle
 fails leaves xs i d lt h =
     let more = take_more xs i d lt in
     ap (λ l. first_failing leaves (take i xs) l) (drop_more xs i d lt)

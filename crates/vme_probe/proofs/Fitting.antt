@@ -148,11 +148,13 @@ not_data : (l : Line) → is_data l ≡ false → line.DataStrobe ≢ l
 not_data l other e = never (is_data l) (ap is_data (sym e)) other
 
 -- DS* is as before
-data_stays : (l : Line) (fall : Bool) (old new : Levels) → is_data l ≡ false → LinesBehind (signal.Line l) fall old new → is_line_left_low new line.DataStrobe ≡ true → is_line_left_low old line.DataStrobe ≡ true
+data_stays : (l : Line) (fall : Bool) (old new : Levels) → is_data l ≡ false → LinesBehind (signal.Line l) fall old new → is_line_left_low new line.DataStrobe ≡ true
+    → is_line_left_low old line.DataStrobe ≡ true
 data_stays l fall old new other h low = sym (h.others line.DataStrobe (not_data l other)) ∙ low
 
 strobed_line : (p : Plan) (probed : Probed) (old : Standings) (may : Drivers) (l : Line) (fall : Bool) (v : Option Value) (lines : Levels)
-    → ControllerMakes p probed.version old (moved.Line l) fall may.controller → BoardsMake p probed.version old (moved.Line l) fall v may.boards → is_nobody may ≡ false → has_value (signal.Line l) fall v ≡ true
+    → ControllerMakes p probed.version old (moved.Line l) fall may.controller → BoardsMake p probed.version old (moved.Line l) fall v may.boards → is_nobody may ≡ false
+    → has_value (signal.Line l) fall v ≡ true
     → LinesBehind (signal.Line l) fall old.lines lines → FitsTogether p old → is_line_left_low lines line.DataStrobe ≡ true → is_some (shown_behind (moved.Line l) fall v old.shown) ≡ true
 strobed_line p probed old may line.AddressStrobe true v lines controller boards some seen h fits low = shows v seen
 strobed_line p probed old may line.AddressStrobe false v lines controller boards some seen h fits low =
@@ -164,7 +166,8 @@ strobed_line p probed old may line.AddressStrobe false v lines controller boards
     not_both false h k = never false h refl
 strobed_line p probed old may line.DataStrobe true v lines controller boards some seen h fits low =
     let can = somebody may some controller (can_strobe old) (has old.addressers) boards in
-    (and_parts (is_some old.shown) (not (is_left_low old line.Dtack)) (and_parts (is_some old.shown && not (is_left_low old line.Dtack)) (not (is_left_low old line.Berr)) (and_parts (is_some old.shown && not (is_left_low old line.Dtack) && not (is_left_low old line.Berr)) (not old.strobed) can).0).0).0
+    (and_parts (is_some old.shown) (not (is_left_low old line.Dtack)) (and_parts (is_some old.shown && not (is_left_low old line.Dtack)) (not (is_left_low old line.Berr))
+    (and_parts (is_some old.shown && not (is_left_low old line.Dtack) && not (is_left_low old line.Berr)) (not old.strobed) can).0).0).0
 strobed_line p probed old may line.DataStrobe false v lines controller boards some seen h fits low = absurd (never (is_line_left_low lines line.DataStrobe) low h.set)
 strobed_line p probed old may l fall v lines controller boards some seen h fits low = fits.strobed (data_stays l fall old.lines lines refl h low)
 
@@ -253,7 +256,8 @@ pin_shows Bg2 place fall v x = refl
 pin_shows Bg3 place fall v x = refl
 pin_shows Iack place fall v x = refl
 
-pin_addressers : (p : Plan) (old : Standings) (c : ChainId) (place : ℕ) (fall : Bool) (v : Option Value) (new : SlotSet) → AddressersBehind p old (segment_moved c place) fall v new → new ≡ old.addressers
+pin_addressers : (p : Plan) (old : Standings) (c : ChainId) (place : ℕ) (fall : Bool) (v : Option Value) (new : SlotSet) → AddressersBehind p old (segment_moved c place) fall v new
+    → new ≡ old.addressers
 pin_addressers p old Bg0 place fall v new h = h
 pin_addressers p old Bg1 place fall v new h = h
 pin_addressers p old Bg2 place fall v new h = h

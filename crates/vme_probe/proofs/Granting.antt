@@ -76,7 +76,6 @@ module _ (p : Plan) (ok : IsAccepted p) (probed : Probed) (st : Standings) (fits
   abbrev version : Version
   version = probed.version
 
-
   -- ---- BBSY* falls
 
   take : (boards : SlotSet) → ((s : ℕ) → has boards s ≡ is_taken p (asked st.lines) st.phases s) → is_left_low st line.Bbsy ≡ false → (s : ℕ) → has_requester p s ≡ true → has boards s ≡ false
@@ -115,7 +114,8 @@ module _ (p : Plan) (ok : IsAccepted p) (probed : Probed) (st : Standings) (fits
           let k = one_left (is_left p st s) _ _ _ b.1 in
           let of = of_requester p ok s r e in
           let f = phase_left p st.phases
-          (on_grants (NotLow wire.Bbsy) (HeldBy s) ∷ when_known (Fails G14 Asked) (may_end (asked st.lines) r.release) ∷ on_grants (Fails G14 GrantInHigh) (SegmentHigh r.level (place_before p r.level s)) ∷ []) k.0 in
+          (on_grants (NotLow wire.Bbsy) (HeldBy s) ∷ when_known (Fails G14 Asked) (may_end (asked st.lines) r.release)
+          ∷ on_grants (Fails G14 GrantInHigh) (SegmentHigh r.level (place_before p r.level s)) ∷ []) k.0 in
           let fit = fits.each f.phase f.has in
           let l = and_parts (is_held_by (λ b. b == s) f.phase) (not (is_low_in p r.level (place_before p r.level s) f.phase) && true) f.allowed in
           let m = denied (is_low_in p r.level (place_before p r.level s) f.phase) (and_parts (not (is_low_in p r.level (place_before p r.level s) f.phase)) true l.1).0 in
@@ -138,7 +138,8 @@ module _ (p : Plan) (ok : IsAccepted p) (probed : Probed) (st : Standings) (fits
   clear_due (Expired n first) held above pri high = absurd (never false held refl)
   clear_due (Held b first) held above pri high = both _ _ (both _ _ pri (by_row (requester_at p b) above)) high
     where
-      by_row : (o : Option RequesterRow) → option_map_or (λ last. is_asked_above last (asked st.lines)) (option_map (λ q. q.level) o) false ≡ true → option_map_or (λ q. is_asked_above q.level (asked st.lines)) o false ≡ true
+      by_row : (o : Option RequesterRow) → option_map_or (λ last. is_asked_above last (asked st.lines)) (option_map (λ q. q.level) o) false ≡ true
+          → option_map_or (λ q. is_asked_above q.level (asked st.lines)) o false ≡ true
       by_row None h = h
       by_row (Some r) h = h
 
@@ -176,7 +177,8 @@ module _ (p : Plan) (ok : IsAccepted p) (probed : Probed) (st : Standings) (fits
         let k = one_left (is_left p st 0) _ _ _ b.1 in
         let d = one_left (is_left p st 0) _ _ _ k.1 in
         let f = phase_left p st.phases
-        (when_known (Fails G1 BusyHigh) (not (low st line.Bbsy)) ∷ on_grants (NotPicked c) (Picked (asked st.lines) c) ∷ on_grants (Fails G1 GrantsHigh) AreGrantsHigh ∷ on_grants (Fails S4 GrantsThrough) AllHigh ∷ []) d.0 in
+        (when_known (Fails G1 BusyHigh) (not (low st line.Bbsy)) ∷ on_grants (NotPicked c) (Picked (asked st.lines) c) ∷ on_grants (Fails G1 GrantsHigh) AreGrantsHigh
+        ∷ on_grants (Fails S4 GrantsThrough) AllHigh ∷ []) d.0 in
         let fit = fits.each f.phase f.has in
         let l = and_parts (option_map_or (λ last. is_picked p (asked st.lines) last c) (last_level p f.phase) false) (are_grants_high f.phase && (are_all_high f.phase && true)) f.allowed in
         let m = and_parts (are_grants_high f.phase) (are_all_high f.phase && true) l.1 in
@@ -202,7 +204,8 @@ module _ (p : Plan) (ok : IsAccepted p) (probed : Probed) (st : Standings) (fits
     own_place : 0 < place → is_board_at place place ≡ true
     own_place from = grind (arith, nat_tests)
 
-    pass : (boards : SlotSet) → has (slice_index_or st.low.grants c no_slots) place ≡ false → 0 < place → has boards place ≡ (is_passed p version c place st.phases && is_board_at place place) → has boards place ≡ false
+    pass : (boards : SlotSet) → has (slice_index_or st.low.grants c no_slots) place ≡ false → 0 < place → has boards place ≡ (is_passed p version c place st.phases && is_board_at place place)
+        → has boards place ≡ false
         → is_some (first_failing (is_left p st place) [] (pass_falls p version c place)) ≡ true
     pass boards was from who lacks = named_if _ (λ none.
         let a = one_left (is_left p st place) [] _ _ none in
@@ -222,9 +225,11 @@ module _ (p : Plan) (ok : IsAccepted p) (probed : Probed) (st : Standings) (fits
     let_go : (b : ℕ) → is_of_level p c b ≡ true → place < b → has_phase st.phases (Held b place) ≡ true → can_rise p version c place st.phases ≡ true
     let_go b on less there =
         let behind : nat_lt place b ≡ true = grind (arith, nat_tests) in
-        or_true (is_run_out p version c place st.phases) _ (any_of (is_let_go p c place st.phases) (active p (grant_chain c)) b (is_member p (in_range p ok) c b few on) (both _ _ (both _ _ behind on) there))
+        or_true (is_run_out p version c place st.phases) _ (any_of (is_let_go p c place st.phases) (active p (grant_chain c)) b (is_member p (in_range p ok) c b few on)
+        (both _ _ (both _ _ behind on) there))
 
-    drop : (boards : SlotSet) → has (slice_index_or st.low.grants c no_slots) place ≡ true → 0 < place → has boards place ≡ (can_rise p version c place st.phases && is_board_at place place) → has boards place ≡ false
+    drop : (boards : SlotSet) → has (slice_index_or st.low.grants c no_slots) place ≡ true → 0 < place → has boards place ≡ (can_rise p version c place st.phases && is_board_at place place)
+        → has boards place ≡ false
         → is_some (first_failing (is_left p st place) [] (pass_rises p c place)) ≡ true
     drop boards was from who lacks = named_if _ (λ none.
         let a = one_left (is_left p st place) [] _ _ none in
@@ -248,7 +253,8 @@ module _ (p : Plan) (ok : IsAccepted p) (probed : Probed) (st : Standings) (fits
 
   module _ (c : ℕ) (few : c < 4) (probed_is : has (slice_index_or probed.segments.grants c no_slots) 0 ≡ true) (was : has (slice_index_or st.low.grants c no_slots) 0 ≡ true) where
     -- a board took the grant, or it has passed the last one
-    may_rise : (q : GrantPhase) → AgreesWithProbes p probed st q → has_phase st.phases q ≡ true → is_past_all p c q ≡ true → (is_held q ≡ false → is_two version ≡ true) → can_rise p version c 0 st.phases ≡ true
+    may_rise : (q : GrantPhase) → AgreesWithProbes p probed st q → has_phase st.phases q ≡ true → is_past_all p c q ≡ true → (is_held q ≡ false → is_two version ≡ true)
+        → can_rise p version c 0 st.phases ≡ true
     may_rise q fit there past two = by_case (begins_over p ok c few q fit.named (run p c 0 q (sees c few 0 refl probed_is true was q fit)) past)
       where
         by_case : ((b : ℕ) × (q ≡ Held b 0) × (is_of_level p c b ≡ true) × (0 < b)) ⊎ (q ≡ Granting c (end_place p c)) → can_rise p version c 0 st.phases ≡ true
@@ -285,8 +291,10 @@ board_place place h = grind (arith, nat_tests)
 
 module _ (p : Plan) (ok : IsAccepted p) (probed : Probed) (st : Standings) (fits : GrantsFit p probed st) (c : ℕ) (few : c < 4) where
   -- a change of the controller's segment
-  by_controller : (place : ℕ) → place ≡ 0 → (fall : Bool) → has (slice_index_or probed.segments.grants c no_slots) place ≡ true → has (slice_index_or st.low.grants c no_slots) place ≡ not fall → (may : Bool)
-      → ControllerMakes p probed.version st (moved.Grant c place) fall may → may ≡ false → (v : Option Value) → is_some (first_failing (is_left p st 0) [] (moves p probed.version st 0 (moved.Grant c place) fall v)) ≡ true
+  by_controller : (place : ℕ) → place ≡ 0 → (fall : Bool) → has (slice_index_or probed.segments.grants c no_slots) place ≡ true → has (slice_index_or st.low.grants c no_slots) place ≡ not fall
+      → (may : Bool)
+      → ControllerMakes p probed.version st (moved.Grant c place) fall may → may ≡ false → (v : Option Value)
+      → is_some (first_failing (is_left p st 0) [] (moves p probed.version st 0 (moved.Grant c place) fall v)) ≡ true
   by_controller place at true probed_is was may who lacks v =
       let head : (place == 0) ≡ true = ap (λ n. n == 0) at in
       subst (λ b. is_some (first_failing (is_left p st 0) [] (if b then grant_falls probed.version st c else pass_falls p probed.version c 0)) ≡ true) (sym head)
@@ -294,12 +302,14 @@ module _ (p : Plan) (ok : IsAccepted p) (probed : Probed) (st : Standings) (fits
   by_controller place at false probed_is was may who lacks v =
       let head : (place == 0) ≡ true = ap (λ n. n == 0) at in
       subst (λ b. is_some (first_failing (is_left p st 0) [] (if b then grant_rises probed.version st c else pass_rises p c 0)) ≡ true) (sym head)
-      (take_back p ok probed st fits c few (subst (λ n. has (slice_index_or probed.segments.grants c no_slots) n ≡ true) at probed_is) (subst (λ n. has (slice_index_or st.low.grants c no_slots) n ≡ true) at was) may
+      (take_back p ok probed st fits c few (subst (λ n. has (slice_index_or probed.segments.grants c no_slots) n ≡ true) at probed_is)
+      (subst (λ n. has (slice_index_or st.low.grants c no_slots) n ≡ true) at was) may
       (subst (λ n. may ≡ can_rise p probed.version c n st.phases) at (subst (λ b. may ≡ (b && can_rise p probed.version c place st.phases)) head who)) lacks)
 
   -- one of a board's
   by_board : (place : ℕ) → is_segment p c place ≡ true → nat_lt 0 place ≡ true → (fall : Bool) → has (slice_index_or probed.segments.grants c no_slots) place ≡ true
-      → has (slice_index_or st.low.grants c no_slots) place ≡ not fall → (boards : SlotSet) (v : Option Value) → BoardsMake p probed.version st (moved.Grant c place) fall v boards → has boards place ≡ false
+      → has (slice_index_or st.low.grants c no_slots) place ≡ not fall → (boards : SlotSet) (v : Option Value) → BoardsMake p probed.version st (moved.Grant c place) fall v boards
+      → has boards place ≡ false
       → is_some (first_failing (is_left p st place) [] (moves p probed.version st place (moved.Grant c place) fall v)) ≡ true
   by_board place seg from true probed_is was boards v who lacks =
       subst (λ b. is_some (first_failing (is_left p st place) [] (if b then grant_falls probed.version st c else pass_falls p probed.version c place)) ≡ true) (sym (board_place place from))
@@ -308,7 +318,8 @@ module _ (p : Plan) (ok : IsAccepted p) (probed : Probed) (st : Standings) (fits
       subst (λ b. is_some (first_failing (is_left p st place) [] (if b then grant_rises probed.version st c else pass_rises p c place)) ≡ true) (sym (board_place place from))
       (drop p ok probed st fits c few place seg probed_is boards was (from_zero place from) (who place) lacks)
 
-  on_grant : (place : ℕ) → is_segment p c place ≡ true → (fall : Bool) → has (slice_index_or probed.segments.grants c no_slots) place ≡ true → has (slice_index_or st.low.grants c no_slots) place ≡ not fall
+  on_grant : (place : ℕ) → is_segment p c place ≡ true → (fall : Bool) → has (slice_index_or probed.segments.grants c no_slots) place ≡ true
+      → has (slice_index_or st.low.grants c no_slots) place ≡ not fall
       → (v : Option Value) (may : Drivers) → ControllerMakes p probed.version st (moved.Grant c place) fall may.controller → BoardsMake p probed.version st (moved.Grant c place) fall v may.boards
       → AreHindered p probed.version st (moved.Grant c place) fall v may
   on_grant place seg fall probed_is was v may controller boards = record {
@@ -325,10 +336,14 @@ on_pin : (p : Plan) → IsAccepted p → (probed : Probed) (st : Standings) → 
     → ControllerMakes p probed.version st (segment_moved c (unwrap_or (wire_on p c s side).place 0)) fall may.controller
     → BoardsMake p probed.version st (segment_moved c (unwrap_or (wire_on p c s side).place 0)) fall v may.boards
     → AreHindered p probed.version st (segment_moved c (unwrap_or (wire_on p c s side).place 0)) fall v may
-on_pin p ok probed st fits s Bg0 side is fall probed_is was v may controller boards = on_grant p ok probed st fits 0 (omega arith) _ (wire_segment p ok 0 s side (omega arith)) fall probed_is was v may controller boards
-on_pin p ok probed st fits s Bg1 side is fall probed_is was v may controller boards = on_grant p ok probed st fits 1 (omega arith) _ (wire_segment p ok 1 s side (omega arith)) fall probed_is was v may controller boards
-on_pin p ok probed st fits s Bg2 side is fall probed_is was v may controller boards = on_grant p ok probed st fits 2 (omega arith) _ (wire_segment p ok 2 s side (omega arith)) fall probed_is was v may controller boards
-on_pin p ok probed st fits s Bg3 side is fall probed_is was v may controller boards = on_grant p ok probed st fits 3 (omega arith) _ (wire_segment p ok 3 s side (omega arith)) fall probed_is was v may controller boards
+on_pin p ok probed st fits s Bg0 side is fall probed_is was v may controller boards = on_grant p ok probed st fits 0 (omega arith) _
+    (wire_segment p ok 0 s side (omega arith)) fall probed_is was v may controller boards
+on_pin p ok probed st fits s Bg1 side is fall probed_is was v may controller boards = on_grant p ok probed st fits 1 (omega arith) _
+    (wire_segment p ok 1 s side (omega arith)) fall probed_is was v may controller boards
+on_pin p ok probed st fits s Bg2 side is fall probed_is was v may controller boards = on_grant p ok probed st fits 2 (omega arith) _
+    (wire_segment p ok 2 s side (omega arith)) fall probed_is was v may controller boards
+on_pin p ok probed st fits s Bg3 side is fall probed_is was v may controller boards = on_grant p ok probed st fits 3 (omega arith) _
+    (wire_segment p ok 3 s side (omega arith)) fall probed_is was v may controller boards
 on_pin p ok probed st fits s Iack side is fall probed_is was v may controller boards = absurd (never false is refl)
 
 pub grants_hindered : (p : Plan) (probed : Probed) (st : Standings) (c : Change) (may : Drivers) → IsAccepted p → AreDrivers p probed st c may → GrantsFit p probed st

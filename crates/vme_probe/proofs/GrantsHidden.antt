@@ -105,7 +105,8 @@ module _ (p : Plan) (ok : IsAccepted p) (probed : Probed) (st : Standings) (requ
   abbrev Alike : GrantPhase → GrantPhase → Type 0
   Alike r q = (c s : ℕ) → c < 4 → s < 22 → has (slice_index_or probed.segments.grants c no_slots) s ≡ true → is_segment p c s ≡ true → is_in_run p c s r ≡ is_in_run p c s q
 
-  led : (q r : GrantPhase) → AgreesWithProbes p probed st q → is_in_table r ≡ true → is_named p r ≡ true → (is_expired r ≡ true → is_two probed.version ≡ true) → is_held r ≡ is_held q → Alike r q → AgreesWithProbes p probed st r
+  led : (q r : GrantPhase) → AgreesWithProbes p probed st q → is_in_table r ≡ true → is_named p r ≡ true → (is_expired r ≡ true → is_two probed.version ≡ true) → is_held r ≡ is_held q → Alike r q
+      → AgreesWithProbes p probed st r
   led q r fit near named two held alike = record {
     near = near;
     named = named;
@@ -122,7 +123,8 @@ module _ (p : Plan) (ok : IsAccepted p) (probed : Probed) (st : Standings) (requ
       let l = and_parts (is_unseen probed.segments.grants n 0) (t == 0 && is_picked p requests last n) lead in
       let k = and_parts (t == 0) (is_picked p requests last n) l.1 in
       let zero_is : t ≡ 0 = same_number t 0 k.0 in
-      led (Idle last) (Granting n t) fit (both _ _ (is_few n (picked_few p requests last n k.1)) (is_near t (omega (arith, zero_is)))) (subst (λ x. is_segment p n x ≡ true) (sym zero_is) refl) (not_expired (is_two probed.version)) refl
+      led (Idle last) (Granting n t) fit (both _ _ (is_few n (picked_few p requests last n k.1)) (is_near t (omega (arith, zero_is)))) (subst (λ x. is_segment p n x ≡ true) (sym zero_is) refl)
+      (not_expired (is_two probed.version)) refl
       (λ c s few to seen seg. is_false (n == c && nat_le s t) (λ h.
       let m = and_parts (n == c) (nat_le s t) h in
       not_unseen c s 0 seen (subst (λ x. is_unseen probed.segments.grants x 0 ≡ true) (same_number n c m.0) l.0) (none s t zero_is m.1)))
@@ -171,7 +173,8 @@ module _ (p : Plan) (ok : IsAccepted p) (probed : Probed) (st : Standings) (requ
       inside s x h = grind (arith, nat_tests)
   leads_on (Held b x) (Held k t) lead fit = by_row (requester_at p b) refl (and_parts (k == b && nat_le t b) _ lead)
     where
-      by_row : (o : Option RequesterRow) → requester_at p b ≡ o → ((k == b && nat_le t b) ≡ true) × (option_map_or (λ q. is_follower p q.level x t && is_unseen probed.segments.grants q.level x) o false ≡ true)
+      by_row : (o : Option RequesterRow) → requester_at p b ≡ o → ((k == b && nat_le t b) ≡ true)
+          × (option_map_or (λ q. is_follower p q.level x t && is_unseen probed.segments.grants q.level x) o false ≡ true)
           → AgreesWithProbes p probed st (Held k t)
       by_row None found l = absurd (never false l.1 refl)
       by_row (Some r) found l =
@@ -224,7 +227,8 @@ module _ (p : Plan) (ok : IsAccepted p) (probed : Probed) (st : Standings) (requ
   leads_on q r lead fit = absurd (never false lead refl)
 
   -- whatever is reached agrees with the probes
-  reached : (phases : GrantPhases) (q : GrantPhase) → IsReached p probed.version requests probed.segments.grants phases q → ((r : GrantPhase) → has_phase phases r ≡ true → AgreesWithProbes p probed st r)
+  reached : (phases : GrantPhases) (q : GrantPhase) → IsReached p probed.version requests probed.segments.grants phases q
+      → ((r : GrantPhase) → has_phase phases r ≡ true → AgreesWithProbes p probed st r)
       → AgreesWithProbes p probed st q
   reached phases _ (Here q there) each = each q there
   reached phases _ (Further q r before lead) each = leads_on q r lead (reached phases q before each)

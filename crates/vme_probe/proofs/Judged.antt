@@ -56,7 +56,8 @@ nothing_waits p v skew (entry.Moment m ∷ said) waits text h = absurd (none_kno
 nothing_waits p v skew (entry.Change c ∷ said) waits text h = absurd (none_known h.3 h.6)
 
 -- so it is no change that comes next
-pub no_change : (p : Plan) (v : Version) (skew : Option ℕ) (said : List Entry) (c : Change) (waits : List SeenChange) (text : List ℕ) → may_stand said (entry.Change c) ≡ true → Judged p v skew said None waits text → ⊥
+pub no_change : (p : Plan) (v : Version) (skew : Option ℕ) (said : List Entry) (c : Change) (waits : List SeenChange) (text : List ℕ) → may_stand said (entry.Change c) ≡ true
+    → Judged p v skew said None waits text → ⊥
 no_change p v skew said c waits text may h = false_true (ap (λ (o : Option ℕ). is_some o) (sym (begun p v skew said waits text h)) ∙ may)
 
 -- ---- a change that was taken in
@@ -65,7 +66,8 @@ both_ways : (b : Bool) → b ≡ true → b ≡ false → ⊥
 both_ways b on off = false_true (sym off ∙ on)
 
 -- it belongs to the sample that waits
-pub joined_taken : (p : Plan) (skew : ℕ) (waiting : List SeenChange) (s : SeenChange) (known : Known) (waits : List SeenChange) (from : Option (List ℕ)) (r : Result (Option Status) ProbeFault) → joins skew waiting s.moment ≡ true → Pushed s waiting waits r → SeenTaken p skew waiting s known known waits from from r
+pub joined_taken : (p : Plan) (skew : ℕ) (waiting : List SeenChange) (s : SeenChange) (known : Known) (waits : List SeenChange) (from : Option (List ℕ)) (r : Result (Option Status) ProbeFault)
+    → joins skew waiting s.moment ≡ true → Pushed s waiting waits r → SeenTaken p skew waiting s known known waits from from r
 joined_taken p skew waiting s known waits from (Ok None) on h = (
   [],
   λ before. record {
@@ -83,7 +85,9 @@ none_full : ◌≡◌ {A = ℕ} 0 12 → ⊥
 none_full h = omega (arith, h)
 
 -- the sample that waited was complete, and was judged
-pub completed_taken : (p : Plan) (skew : ℕ) (waiting : List SeenChange) (s : SeenChange) (old new : Known) (none waits : List SeenChange) (from to : Option (List ℕ)) (r : Result (Option Status) ProbeFault) → joins skew waiting s.moment ≡ false → none ≡ [] → SampleTaken p waiting old new from to (Ok None) → Pushed s none waits r → SeenTaken p skew waiting s old new waits from to r
+pub completed_taken : (p : Plan) (skew : ℕ) (waiting : List SeenChange) (s : SeenChange) (old new : Known) (none waits : List SeenChange) (from to : Option (List ℕ))
+    (r : Result (Option Status) ProbeFault) → joins skew waiting s.moment ≡ false → none ≡ [] → SampleTaken p waiting old new from to (Ok None) → Pushed s none waits r
+    → SeenTaken p skew waiting s old new waits from to r
 completed_taken p skew waiting s old new none waits from to (Ok None) off is t h = (
   t.0,
   λ before. record {
@@ -98,7 +102,8 @@ completed_taken p skew waiting s old new none waits from to (Err (fault.Capture 
 completed_taken p skew waiting s old new none waits from to (Err (fault.Engine f)) off is t h = absurd h
 
 -- what its lines say, whatever was written before
-next_written : (p : Plan) (skew : Option ℕ) (waiting : List SeenChange) (s : SeenChange) (old new : Known) (waits : List SeenChange) (from to : Option (List ℕ)) → NextTaken p skew waiting s old new waits from to (Ok None)
+next_written : (p : Plan) (skew : Option ℕ) (waiting : List SeenChange) (s : SeenChange) (old new : Known) (waits : List SeenChange) (from to : Option (List ℕ))
+    → NextTaken p skew waiting s old new waits from to (Ok None)
     → (text : List ℕ) × ((lines : List ℕ) → TakesNext p skew lines old waiting s new waits (lines ++ text)) × Appends from to text
 next_written p None waiting s old new waits from to t = (
   change_line s.moment s.change t.1.0,
@@ -107,7 +112,8 @@ next_written p None waiting s old new waits from to t = (
 )
 next_written p (Some skew) waiting s old new waits from to t = t
 
-next_stopped : (p : Plan) (skew : Option ℕ) (waiting : List SeenChange) (s : SeenChange) (old new : Known) (waits : List SeenChange) (from to : Option (List ℕ)) (status : Status) → NextTaken p skew waiting s old new waits from to (Ok (Some status))
+next_stopped : (p : Plan) (skew : Option ℕ) (waiting : List SeenChange) (s : SeenChange) (old new : Known) (waits : List SeenChange) (from to : Option (List ℕ)) (status : Status)
+    → NextTaken p skew waiting s old new waits from to (Ok (Some status))
     → (text : List ℕ) × StopsNext p skew old waiting s text × Appends from to text × (status ≡ SomeRefused)
 next_stopped p None waiting s old new waits from to status t = t.1
 next_stopped p (Some skew) waiting s old new waits from to status t = (t.1, (t.0, t.2), t.3, t.4)
@@ -122,27 +128,32 @@ of_next : (p : Plan) (waiting : List SeenChange) (s : SeenChange) (old : Known) 
 of_next p waiting s old lines text (inl h) = inl (h.0, [], (record { drivers = h.1; follows = h.2; is = ap (λ (l : List ℕ). lines ++ l) h.3 }, refl))
 of_next p waiting s old lines text (inr h) = inr h
 
-of_completed : (p : Plan) (skew : ℕ) (waiting : List SeenChange) (s : SeenChange) (old : Known) (lines text : List ℕ) → joins skew waiting s.moment ≡ false → IsOfSample p old waiting text → IsOfNext p (Some skew) waiting s old lines text
+of_completed : (p : Plan) (skew : ℕ) (waiting : List SeenChange) (s : SeenChange) (old : Known) (lines text : List ℕ) → joins skew waiting s.moment ≡ false → IsOfSample p old waiting text
+    → IsOfNext p (Some skew) waiting s old lines text
 of_completed p skew waiting s old lines text apart (inl h) =
     inl (h.0, s ∷ [], record { joined = λ on. absurd (both_ways (joins skew waiting s.moment) on apart); complete = λ off. (text, h.1, refl, refl) })
 of_completed p skew waiting s old lines text apart (inr h) = inr (apart, h)
 
-next_cut : (p : Plan) (skew : Option ℕ) (waiting : List SeenChange) (s : SeenChange) (old new : Known) (waits : List SeenChange) (from to : Option (List ℕ)) (f : Fault) → NextTaken p skew waiting s old new waits from to (Err (fault.Engine (engine.Trace f)))
+next_cut : (p : Plan) (skew : Option ℕ) (waiting : List SeenChange) (s : SeenChange) (old new : Known) (waits : List SeenChange) (from to : Option (List ℕ)) (f : Fault)
+    → NextTaken p skew waiting s old new waits from to (Err (fault.Engine (engine.Trace f)))
     → (f ≡ trace.Write) × (text : List ℕ) × ((lines : List ℕ) → IsOfNext p skew waiting s old lines text) × AppendsFront from to text
 next_cut p None waiting s old new waits from to f t = (t.0, t.1, λ lines. of_next p waiting s old lines t.1 t.2, t.3)
 next_cut p (Some skew) waiting s old new waits from to f t = (t.0, t.1, λ lines. of_completed p skew waiting s old lines t.1 t.2.0 t.2.1, t.3)
 
-next_full : (p : Plan) (skew : Option ℕ) (waiting : List SeenChange) (s : SeenChange) (old new : Known) (waits : List SeenChange) (from to : Option (List ℕ)) → NextTaken p skew waiting s old new waits from to (Err fault.TooManyOrders)
+next_full : (p : Plan) (skew : Option ℕ) (waiting : List SeenChange) (s : SeenChange) (old new : Known) (waits : List SeenChange) (from to : Option (List ℕ))
+    → NextTaken p skew waiting s old new waits from to (Err fault.TooManyOrders)
     → (most : ℕ) × (skew ≡ Some most) × (joins most waiting s.moment ≡ true) × (length waiting ≡ 12) × Keeps from to
 next_full p None waiting s old new waits from to t = absurd t
 next_full p (Some skew) waiting s old new waits from to t = (skew, refl, t.0, t.1, t.2)
 
-no_capture : (p : Plan) (skew : Option ℕ) (waiting : List SeenChange) (s : SeenChange) (old new : Known) (waits : List SeenChange) (from to : Option (List ℕ)) (f : CaptureFault) → NextTaken p skew waiting s old new waits from to (Err (fault.Capture f)) → ⊥
+no_capture : (p : Plan) (skew : Option ℕ) (waiting : List SeenChange) (s : SeenChange) (old new : Known) (waits : List SeenChange) (from to : Option (List ℕ)) (f : CaptureFault)
+    → NextTaken p skew waiting s old new waits from to (Err (fault.Capture f)) → ⊥
 no_capture p None waiting s old new waits from to f t = t
 no_capture p (Some skew) waiting s old new waits from to f t = t
 
 -- of the faults of an engine that of the output alone comes
-no_other : (p : Plan) (skew : Option ℕ) (waiting : List SeenChange) (s : SeenChange) (old new : Known) (waits : List SeenChange) (from to : Option (List ℕ)) (f : EngineFault) → NextTaken p skew waiting s old new waits from to (Err (fault.Engine f)) → (g : Fault) × (f ≡ engine.Trace g)
+no_other : (p : Plan) (skew : Option ℕ) (waiting : List SeenChange) (s : SeenChange) (old new : Known) (waits : List SeenChange) (from to : Option (List ℕ)) (f : EngineFault)
+    → NextTaken p skew waiting s old new waits from to (Err (fault.Engine f)) → (g : Fault) × (f ≡ engine.Trace g)
 no_other p skew waiting s old new waits from to (engine.Trace f) t = (f, refl)
 no_other p None waiting s old new waits from to (engine.Scenario e) t = absurd t
 no_other p None waiting s old new waits from to engine.CannotRead t = absurd t
@@ -199,7 +210,8 @@ module _ (p : Plan) (skew : Option ℕ) (v : Version) (said : List Entry) where
       )
       of_entry text (inr h) = inr (before, waiting, s.text, text, s.judged, subst (λ (x : SeenChange). StopsNext p skew before waiting x text) is h, refl)
 
-      cut_entry : (f : Fault) → NextTaken p skew waiting at before new waits mid to (Err (fault.Engine (engine.Trace f))) → EntryTaken p skew v said (entry.Change c) now waits from to (Err (fault.Engine (engine.Trace f)))
+      cut_entry : (f : Fault) → NextTaken p skew waiting at before new waits mid to (Err (fault.Engine (engine.Trace f)))
+          → EntryTaken p skew v said (entry.Change c) now waits from to (Err (fault.Engine (engine.Trace f)))
       cut_entry f t =
           let w = next_cut p skew waiting at before new waits mid to f t in
           (w.0, s.text ++ w.1, of_entry w.1 (w.2 s.text), second_front from mid to s.text w.1 s.wrote w.3)
@@ -241,7 +253,8 @@ module _ (p : Plan) (skew : Option ℕ) (v : Version) (said : List Entry) where
       h.2,
     )
 
-    pub head_fails : (now : Option Known) (f : Fault) → HeadTaken p v (entry.Moment m ∷ said) now mid to (Err f) → EntryTaken p skew v said (entry.Moment m) now waits from to (Err (fault.Engine (engine.Trace f)))
+    pub head_fails : (now : Option Known) (f : Fault) → HeadTaken p v (entry.Moment m ∷ said) now mid to (Err f)
+        → EntryTaken p skew v said (entry.Moment m) now waits from to (Err (fault.Engine (engine.Trace f)))
     head_fails now f h = (
       h.0,
       s.text ++ no_beginning,
@@ -251,7 +264,8 @@ module _ (p : Plan) (skew : Option ℕ) (v : Version) (said : List Entry) where
 
   -- ---- a later moment
 
-  pub moment_later : (m : ℕ) (k : Known) (known : Option Known) (waits : List SeenChange) (from to : Option (List ℕ)) → known ≡ Some k → Stands p skew v said known waits from to → EntryTaken p skew v said (entry.Moment m) known waits from to (Ok None)
+  pub moment_later : (m : ℕ) (k : Known) (known : Option Known) (waits : List SeenChange) (from to : Option (List ℕ)) → known ≡ Some k → Stands p skew v said known waits from to
+      → EntryTaken p skew v said (entry.Moment m) known waits from to (Ok None)
   moment_later m k known waits from to is s = record {
     text = s.text;
     judged = (known, k, s.judged, subst (λ (x : Option Known). Begun p v said x k) (sym is) refl, is);
@@ -267,7 +281,8 @@ change_known p skew v r bytes said c known waits text read named judged none =
     (subst (λ (k : Option Known). Judged p v skew said k waits text) none judged)
 
 -- the same is known, and as much waits
-pub stands_on : (p : Plan) (skew : Option ℕ) (v : Version) (said : List Entry) (known : Option Known) (old new : Option Sampling) (from to : Option (List ℕ)) → known ≡ None → new ≡ old → Stands p skew v said known (waiting_in old) from to → Stands p skew v said None (waiting_in new) from to
+pub stands_on : (p : Plan) (skew : Option ℕ) (v : Version) (said : List Entry) (known : Option Known) (old new : Option Sampling) (from to : Option (List ℕ)) → known ≡ None → new ≡ old
+    → Stands p skew v said known (waiting_in old) from to → Stands p skew v said None (waiting_in new) from to
 stands_on p skew v said known old new from to none same s =
     subst (λ (x : Option Sampling). Stands p skew v said None (waiting_in x) from to) (sym same)
     (subst (λ (k : Option Known). Stands p skew v said k (waiting_in old) from to) none s)

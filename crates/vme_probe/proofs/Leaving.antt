@@ -131,7 +131,8 @@ phase_left p s ds h = first (or_cases (is_idle_left p s ds || list_any (is_grant
     second : (is_idle_left p s ds || list_any (is_granting_left p s ds) bus_numbers || list_any (is_held_left p s ds) places ≡ true) → PhaseLeft p s ds
     second k = elim (or_cases _ _ k) [ inl q ↦ third q | inr q ↦ held q ]
 
-    first : (is_idle_left p s ds || list_any (is_granting_left p s ds) bus_numbers || list_any (is_held_left p s ds) places ≡ true) ⊎ (list_any (is_expired_left p s ds) bus_numbers ≡ true) → PhaseLeft p s ds
+    first : (is_idle_left p s ds || list_any (is_granting_left p s ds) bus_numbers || list_any (is_held_left p s ds) places ≡ true) ⊎ (list_any (is_expired_left p s ds) bus_numbers ≡ true)
+        → PhaseLeft p s ds
     first (inl k) = second k
     first (inr k) = expired k
 

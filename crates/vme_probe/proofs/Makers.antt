@@ -78,7 +78,8 @@ one_less n = omega arith
 same_some : (a b : Sighting) → Some a ≡ Some b → a ≡ b
 same_some a b h = cc
 
-module _ (p : Plan) (ok : IsAccepted p) (v : Version) (said : List Entry) (c : Change) (old : Known) (t : Tied p ok v said old) (hidden : Standings) (moved : HasMoved p old.probed old.standings hidden) (d : Drivers) (drivers : AreDrivers p old.probed hidden c d) where
+module _ (p : Plan) (ok : IsAccepted p) (v : Version) (said : List Entry) (c : Change) (old : Known) (t : Tied p ok v said old) (hidden : Standings)
+    (moved : HasMoved p old.probed old.standings hidden) (d : Drivers) (drivers : AreDrivers p old.probed hidden c d) where
   abbrev starts : StartsAs p t.probed (capture_of v (entry.Change c ∷ said)) t.first
   starts = same_head p ok v said c t.probed t.first t.starts
 
@@ -125,7 +126,8 @@ module _ (p : Plan) (ok : IsAccepted p) (v : Version) (said : List Entry) (c : C
       true_false h = cc
 
 -- each line names all who may have made its change
-pub names : (p : Plan) (ok : IsAccepted p) (v : Version) (said : List Entry) → AllSaid p said → (known : Option Known) (waits : List SeenChange) (text : List ℕ) → Judged p v None said known waits text → Names p v said text
+pub names : (p : Plan) (ok : IsAccepted p) (v : Version) (said : List Entry) → AllSaid p said → (known : Option Known) (waits : List SeenChange) (text : List ℕ) → Judged p v None said known waits text
+    → Names p v said text
 names p ok v [] all known waits text h = h.2
 names p ok v (entry.Pin q ∷ said) all known waits text h = names p ok v said all.1 known waits text h
 names p ok v (entry.Running ∷ said) all known waits text h = names p ok v said all.1 known waits text h
@@ -141,7 +143,8 @@ names p ok v (entry.Change c ∷ said) all known waits text h =
     )
 
 -- and what is impossible, no bus shows
-pub stopped : (p : Plan) (ok : IsAccepted p) (v : Version) (said : List Entry) (c : Change) (m : ℕ) → AllSaid p said → (old : Known) (waits : List SeenChange) (lines text : List ℕ) → Judged p v None said (Some old) waits lines → Stops p old m c text
+pub stopped : (p : Plan) (ok : IsAccepted p) (v : Version) (said : List Entry) (c : Change) (m : ℕ) → AllSaid p said → (old : Known) (waits : List SeenChange) (lines text : List ℕ)
+    → Judged p v None said (Some old) waits lines → Stops p old m c text
     → IsPossible p (capture_of v (entry.Change c ∷ said)) → ⊥
 stopped p ok v said c m all old waits lines text judged s =
     never_nobody p ok v said c old (tied p ok v said all old waits lines judged) s.hidden s.moved s.makers s.makers_are s.nobody

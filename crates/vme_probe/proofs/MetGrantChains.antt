@@ -111,10 +111,10 @@ module _ (p : Plan) (ok : IsAccepted p) (version : Version) (pins : List Pin) (h
           grants_met p ok version pins h legal st covers (heads d),
           elim (cases_Bool (is_two version)) [
             | inl two ↦ rw two (λ g. (
-                idle_high (not_true (line_of p h wire.Bbsy) high) (heads d)
-                (with_two (is_two version) (are_grants_through p h) (one_settles version p h S4 GrantsThrough (edge Controller (wire.Bg c) true None) g refl) two),
-                tt,
-              ))
+              idle_high (not_true (line_of p h wire.Bbsy) high) (heads d)
+                  (with_two (is_two version) (are_grants_through p h) (one_settles version p h S4 GrantsThrough (edge Controller (wire.Bg c) true None) g refl) two),
+              tt,
+            ))
             | inr one ↦ rw one tt
           ],
         ),
@@ -144,9 +144,9 @@ module _ (p : Plan) (ok : IsAccepted p) (version : Version) (pins : List Pin) (h
     grant_rise x = elim (cases_Bool (is_two version)) [
       | inl two ↦ rw two (λ a. (past_met (two_past (is_two version) _ _ (one_settles version p h S3 PassedTheLastBoard (edge Controller (wire.Bg c) false None) a refl) two), tt))
       | inr one ↦ rw one (λ a. (
-          covers.levels.shared line.Bbsy refl ∙ with_one (is_two version) (line_of p h wire.Bbsy) (one_met version p h G2 BusyLow (edge Controller (wire.Bg c) false None) a refl) one,
-          tt,
-        ))
+        covers.levels.shared line.Bbsy refl ∙ with_one (is_two version) (line_of p h wire.Bbsy) (one_met version p h G2 BusyLow (edge Controller (wire.Bg c) false None) a refl) one,
+        tt,
+      ))
     ]
       where
         two_past : (a b d : Bool) → ((not a || b) || d) ≡ true → a ≡ true → (b || d) ≡ true
@@ -234,7 +234,7 @@ module _ (p : Plan) (ok : IsAccepted p) (version : Version) (pins : List Pin) (h
         ap not (sym (stands.held s)) ∙ free b,
         λ d. (
           last_asks low (not_true (drive h (Slot s) wire.Bbsy) (free b))
-          (not_true (drive h (Slot s) wire.Br) (and_left (not (drive h (Slot s) wire.Br)) true (one_met version p h G11 OwnRequestHigh (edge (Slot s) wire.BgOut true None) d refl))),
+              (not_true (drive h (Slot s) wire.Br) (and_left (not (drive h (Slot s) wire.Br)) true (one_met version p h G11 OwnRequestHigh (edge (Slot s) wire.BgOut true None) d refl))),
           tt,
         ),
       ),

@@ -142,10 +142,10 @@ module _ (p : Plan) (ok : IsAccepted p) (version : Version) (pins : List Pin) (h
     sym (stands.held s) ∙ a,
     λ b. (
       ends q.release (subst (λ (o : Option RequesterRow). met Asked (option_map_or (λ y. released (list_any (request_line p h) bus_numbers) y.release) o free) ≡ true) found
-      (one_met version p h G14 Asked (edge (Slot s) wire.Bbsy false None) b refl)),
+          (one_met version p h G14 Asked (edge (Slot s) wire.Bbsy false None) b refl)),
       λ c. (
         ap not (sym (input_in q.level s on))
-        ∙ and_left (not (grant_in p h (Slot s))) true (and_left _ _ (one_met version p h G14 GrantInHigh (edge (Slot s) wire.Bbsy false None) c refl)),
+            ∙ and_left (not (grant_in p h (Slot s))) true (and_left _ _ (one_met version p h G14 GrantInHigh (edge (Slot s) wire.Bbsy false None) c refl)),
         tt,
       ),
     ),
@@ -199,9 +199,9 @@ module _ (p : Plan) (ok : IsAccepted p) (version : Version) (pins : List Pin) (h
     covers.levels.shared line.Bbsy refl ∙ and_left (line_of p h wire.Bbsy) true (and_left _ true (one_met version p h G3 BusyLow (edge Controller wire.Bclr true None) a refl)),
     λ b. (
       ap (λ (o : Option ℕ). option_map_or (λ last. is_asked_above last (asked st.lines)) o false) stands.granted
-      ∙ four_same (λ m. nat_lt (last_granted h) m && has_bus_level (asked st.lines) m) (λ m. nat_lt (last_granted h) m && request_line p h m)
-      (λ m few. ap (λ y. nat_lt (last_granted h) m && y) (asked_now m few))
-      ∙ one_met version p h G3 HigherAsked (edge Controller wire.Bclr true None) b refl,
+          ∙ four_same (λ m. nat_lt (last_granted h) m && has_bus_level (asked st.lines) m) (λ m. nat_lt (last_granted h) m && request_line p h m)
+          (λ m few. ap (λ y. nat_lt (last_granted h) m && y) (asked_now m few))
+          ∙ one_met version p h G3 HigherAsked (edge Controller wire.Bclr true None) b refl,
       λ c. (
         and_left (is_pri p.arbiter) true (and_left _ true (and_left _ true (one_met version p h G3 ArbiterIsPri (edge Controller wire.Bclr true None) c refl))),
         λ d. (grants_met (and_left _ true (one_met version p h G3 GrantsHigh (edge Controller wire.Bclr true None) d refl)), tt),
@@ -218,7 +218,7 @@ module _ (p : Plan) (ok : IsAccepted p) (version : Version) (pins : List Pin) (h
       let a = and_parts (is_pri p.arbiter && option_map_or (λ q. is_asked_above q.level (asked st.lines)) (requester_at p k) false) (nat_lt 0 first) due in
       let b = and_parts (is_pri p.arbiter) (option_map_or (λ q. is_asked_above q.level (asked st.lines)) (requester_at p k) false) a.0 in
       both _ _ (both _ _ (both _ _ b.0 (line_shows version p ok h legal k wire.Bbsy (i.held k ∙ equal k k refl))) (all_high (head_high (above first a.1))))
-          (above_asked (requester_at p k) i.granted b.1)
+      (above_asked (requester_at p k) i.granted b.1)
     where
       above : (x : ℕ) → nat_lt 0 x ≡ true → 0 < x
       above x e = grind (arith, nat_tests)

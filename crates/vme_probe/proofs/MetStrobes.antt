@@ -69,12 +69,15 @@ module _ (p : Plan) (ok : IsAccepted p) (version : Version) (pins : List Pin) (h
     covers.addressers s a,
     λ b. (
       ap not (covers.levels.shared line.DataStrobe refl)
-      ∙ not_on (line_of p h wire.DataStrobe) (data_high s a (not_true (drive h (Slot s) wire.DataStrobe)
-      (and_left (not (drive h (Slot s) wire.DataStrobe)) true
+          ∙ not_on (line_of p h wire.DataStrobe) (data_high s a (not_true (drive h (Slot s) wire.DataStrobe)
+          (and_left (not (drive h (Slot s) wire.DataStrobe)) true
           (rule_met version p h G19 OwnDataStrobeHigh (edge (Slot s) wire.Addr false (cycle_seen x))
-              (first_edge version p h G19 OwnDataStrobeHigh (edge (Slot s) wire.Addr false (cycle_seen x)) (edge (Slot s) wire.AddressStrobe false None ∷ []) b) refl)))),
-      λ c. (covers.strobed s a ∙ rule_met version p h G19 Strobed (edge (Slot s) wire.Addr false (cycle_seen x))
-          (first_edge version p h G19 Strobed (edge (Slot s) wire.Addr false (cycle_seen x)) (edge (Slot s) wire.AddressStrobe false None ∷ []) c) refl, tt),
+          (first_edge version p h G19 OwnDataStrobeHigh (edge (Slot s) wire.Addr false (cycle_seen x)) (edge (Slot s) wire.AddressStrobe false None ∷ []) b) refl)))),
+      λ c. (
+        covers.strobed s a ∙ rule_met version p h G19 Strobed (edge (Slot s) wire.Addr false (cycle_seen x))
+            (first_edge version p h G19 Strobed (edge (Slot s) wire.Addr false (cycle_seen x)) (edge (Slot s) wire.AddressStrobe false None ∷ []) c) refl,
+        tt,
+      ),
     ),
   )
 
@@ -82,7 +85,7 @@ module _ (p : Plan) (ok : IsAccepted p) (version : Version) (pins : List Pin) (h
   clear_high : is_chain_clear p h chain.Iack ≡ true → is_chain_high st ≡ true
   clear_high clear = none_any (λ place. has st.low.acknowledge place) places
       (both (not (has st.low.acknowledge 0)) _ (not_on (has st.low.acknowledge 0) (high 0))
-          (all_below (λ k. not (has st.low.acknowledge k)) 21 (λ k from to. not_on (has st.low.acknowledge k) (high k))))
+      (all_below (λ k. not (has st.low.acknowledge k)) 21 (λ k from to. not_on (has st.low.acknowledge k) (high k))))
     where
       off_right : (a b : Bool) → b ≡ false → (a && b) ≡ false
       off_right a b e = grind arith
@@ -126,10 +129,10 @@ module _ (p : Plan) (ok : IsAccepted p) (version : Version) (pins : List Pin) (h
     covers.addressers s own,
     λ b. (
       ap not (covers.levels.shared line.Dtack refl)
-      ∙ and_left (not (line_of p h wire.Dtack)) true (and_left _ true (one_met version p h G17 DtackHigh (edge (Slot s) wire.DataStrobe true None) b refl)),
+          ∙ and_left (not (line_of p h wire.Dtack)) true (and_left _ true (one_met version p h G17 DtackHigh (edge (Slot s) wire.DataStrobe true None) b refl)),
       λ c. (
         ap not (covers.levels.shared line.Berr refl)
-        ∙ and_left (not (drive h Controller wire.Berr)) true (one_met version p h G17 BerrHigh (edge (Slot s) wire.DataStrobe true None) c refl),
+            ∙ and_left (not (drive h Controller wire.Berr)) true (one_met version p h G17 BerrHigh (edge (Slot s) wire.DataStrobe true None) c refl),
         λ d. (ap not (covers.strobed s own) ∙ one_met version p h G17 NotStrobed (edge (Slot s) wire.DataStrobe true None) d refl, tt),
       ),
     ),
@@ -144,7 +147,7 @@ module _ (p : Plan) (ok : IsAccepted p) (version : Version) (pins : List Pin) (h
     covers.addressers s (addresses s a),
     λ b. (
       ap (λ y. y || low st line.Berr) (covers.levels.shared line.Dtack refl) ∙ ap (λ y. line_of p h wire.Dtack || y) (covers.levels.shared line.Berr refl)
-      ∙ one_met version p h G18 Answered (edge (Slot s) wire.DataStrobe false None) b refl,
+          ∙ one_met version p h G18 Answered (edge (Slot s) wire.DataStrobe false None) b refl,
       tt,
     ),
   )

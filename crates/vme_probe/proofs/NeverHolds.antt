@@ -149,7 +149,7 @@ module _ (p : Plan) (version : Version) (pins : List Pin) (st : Standings) where
       → has_it p (moved.Acknowledge place) d ≡ true
       → (ok : IsAccepted p) (h : List Edge) (legal : IsLegal version p h) (covers : Covers p pins h st) → is_segment_low h chain.Iack place ≡ not fall
       → Tells p ok version pins h legal st covers (holds version p h d (moved.Acknowledge place) fall value) (driver_number d)
-          (moves p version st (driver_number d) (moved.Acknowledge place) fall value)
+      (moves p version st (driver_number d) (moved.Acknowledge place) fall value)
   acknowledge_told zero works true value Controller has ok h legal covers other = starts_fall p ok version pins h legal st covers value
   acknowledge_told zero works false value Controller has ok h legal covers other = starts_rise p ok version pins h legal st covers value
   acknowledge_told (suc t) works fall value Controller has ok h legal covers other = absurd (never (suc t == 0) has (not_zero t))
@@ -164,7 +164,7 @@ module _ (p : Plan) (version : Version) (pins : List Pin) (st : Standings) where
       by_slot : (s : ℕ) → s ≡ suc t → Tells p ok version pins h legal st covers (holds version p h (Slot s) (moved.Acknowledge (suc t)) fall value) s (acknowledge_moves p st s (suc t) fall)
       by_slot s is =
           subst (λ y. Tells p ok version pins h legal st covers (holds version p h (Slot y) (moved.Acknowledge (suc t)) fall value) y (acknowledge_moves p st y (suc t) fall)) (sym is)
-              (by_way fall other)
+          (by_way fall other)
 
   -- a pin
   pin_told : (q : Pin) (fall : Bool) (value : Option Value) (d : Driver) → has_it p (moved_by p (signal.Pin q)) d ≡ true → AllTold p version pins st (signal.Pin q) fall value d
@@ -173,7 +173,7 @@ module _ (p : Plan) (version : Version) (pins : List Pin) (st : Standings) where
     where
       by_chain : (k : ChainId) (place : ℕ) → ((t : ℕ) → place ≡ suc t → is_active p.rows k (suc t) ≡ true) → has_it p (segment_moved k place) d ≡ true → is_segment_low h k place ≡ not fall
           → Tells p ok version pins h legal st covers (holds version p h d (segment_moved k place) fall value) (driver_number d)
-              (moves p version st (driver_number d) (segment_moved k place) fall value)
+          (moves p version st (driver_number d) (segment_moved k place) fall value)
       by_chain chain.Bg0 place works has other = grant_told 0 place (omega arith) works fall value d has ok h legal covers
       by_chain chain.Bg1 place works has other = grant_told 1 place (omega arith) works fall value d has ok h legal covers
       by_chain chain.Bg2 place works has other = grant_told 2 place (omega arith) works fall value d has ok h legal covers

@@ -106,7 +106,8 @@ no_value p h e w r g f is = refl
 abbrev pub ArePinsAsSaid : Plan → List Entry → List Edge → Type 0
 ArePinsAsSaid p said h = (q : Pin) → pin_on p (pins said) (wire_of p q) ≡ Some q → is_left_low said (signal.Pin q) ≡ is_low p h (signal.Pin q)
 
-module _ (p : Plan) (ok : IsAccepted p) (said : List Entry) (h : List Edge) (levels : ArePinsAsSaid p said h) (e : Edge) (v : Change) (s : seen p (pins said) h e ≡ Some v) (q : Pin) (is : v.signal ≡ signal.Pin q) where
+module _ (p : Plan) (ok : IsAccepted p) (said : List Entry) (h : List Edge) (levels : ArePinsAsSaid p said h) (e : Edge) (v : Change) (s : seen p (pins said) h e ≡ Some v) (q : Pin)
+    (is : v.signal ≡ signal.Pin q) where
   moves : segment_of e.wire (board_of p e.driver) ≡ Some (wire_of p q)
   moves = segment_is p (pins said) h e v s q is
 

@@ -196,7 +196,8 @@ module _ (p : Plan) (ok : IsAccepted p) (c : ℕ) (few : c < 4) where
         let l = and_parts (is_of_level p c b) (nat_le first s && nat_lt s b) low in
         let k = and_parts (nat_le first s) (nat_lt s b) l.1 in
         let less : s < b = below s b k.1 in
-        let late : place < first = above first place (first_fails (nat_le first place) (nat_lt place b) (second_fails (is_of_level p c b) (nat_le first place && nat_lt place b) high l.0) (less_is place b (omega (arith, less, input.below)))) in
+        let late : place < first = above first place (first_fails (nat_le first place) (nat_lt place b) (second_fails (is_of_level p c b) (nat_le first place && nat_lt place b) high l.0)
+        (less_is place b (omega (arith, less, input.below)))) in
         let is : first ≡ s = next first (held_segment p c b first l.0 named) late (at_most first s k.0) in
         inl (b, ap (λ t. Held b t) is, l.0, less)
       where

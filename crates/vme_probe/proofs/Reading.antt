@@ -32,14 +32,16 @@ pub nothing_judged : (p : Plan) (skew : Option ℕ) (o : Option Version) → Jud
 nothing_judged p skew None = (refl, refl, refl)
 nothing_judged p skew (Some v) = (refl, refl, refl)
 
-unjudged : (p : Plan) (skew : Option ℕ) (o : Option Version) (said : List Entry) (known : Option Known) (waits : List SeenChange) (text : List ℕ) → said ≡ [] → known ≡ None → waits ≡ [] → text ≡ [] → JudgedBy p skew o said known waits text
+unjudged : (p : Plan) (skew : Option ℕ) (o : Option Version) (said : List Entry) (known : Option Known) (waits : List SeenChange) (text : List ℕ) → said ≡ [] → known ≡ None → waits ≡ [] → text ≡ []
+    → JudgedBy p skew o said known waits text
 unjudged p skew o said known waits text s k w t =
     subst (λ (l : List Entry). JudgedBy p skew o l known waits text) (sym s)
     (subst (λ (x : Option Known). JudgedBy p skew o [] x waits text) (sym k)
     (subst (λ (l : List SeenChange). JudgedBy p skew o [] None l text) (sym w)
     (subst (λ (l : List ℕ). JudgedBy p skew o [] None [] l) (sym t) (nothing_judged p skew o))))
 
-nothing_by : (p : Plan) (skew : Option ℕ) (w : Version) (said : List Entry) (known : Option Known) (waits : List SeenChange) (text : List ℕ) → said ≡ [] → Judged p w skew said known waits text → (known ≡ None) × (waits ≡ []) × (text ≡ [])
+nothing_by : (p : Plan) (skew : Option ℕ) (w : Version) (said : List Entry) (known : Option Known) (waits : List SeenChange) (text : List ℕ) → said ≡ [] → Judged p w skew said known waits text
+    → (known ≡ None) × (waits ≡ []) × (text ≡ [])
 nothing_by p skew w said known waits text s h = subst (λ (l : List Entry). Judged p w skew l known waits text) s h
 
 module _ (p : Plan) (skew : Option ℕ) (old : Reader) (bytes : List ℕ) (said : List Entry) (read : HasRead p old bytes said) (known : Option Known) (waits : List SeenChange) (text : List ℕ) where
@@ -49,7 +51,8 @@ module _ (p : Plan) (skew : Option ℕ) (old : Reader) (bytes : List ℕ) (said 
 
   -- behind more bytes, that of the version read there
   module _ (judged : JudgedBy p skew old.version said known waits text) where
-    judged_at_from : (o : Option Version) → old.version ≡ o → JudgedBy p skew o said known waits text → (new : Reader) (more : List ℕ) (said_new : List Entry) (v : Version) → HasRead p new (bytes ++ more) said_new → new.version ≡ Some v
+    judged_at_from : (o : Option Version) → old.version ≡ o → JudgedBy p skew o said known waits text → (new : Reader) (more : List ℕ) (said_new : List Entry) (v : Version)
+        → HasRead p new (bytes ++ more) said_new → new.version ≡ Some v
         → Judged p v skew said known waits text
     judged_at_from None is h new more said_new v later named = unjudged p skew (Some v) said known waits text (read.start is).1 h.0 h.1 h.2
     judged_at_from (Some w) is h new more said_new v later named =
@@ -96,7 +99,8 @@ module _ (p : Plan) (skew : Option ℕ) (old : Reader) (bytes : List ℕ) (said 
 
 -- ---- what a reader says of an entry that was read
 
-module _ (p : Plan) (skew : Option ℕ) (now : Judging) (bytes : List ℕ) (said : List Entry) (e : Entry) (v : Version) (read : HasRead p now.reader bytes (e ∷ said)) (named : now.reader.version ≡ Some v) (same : skew_of now.sampling ≡ skew) (from to : Option (List ℕ)) where
+module _ (p : Plan) (skew : Option ℕ) (now : Judging) (bytes : List ℕ) (said : List Entry) (e : Entry) (v : Version) (read : HasRead p now.reader bytes (e ∷ said))
+    (named : now.reader.version ≡ Some v) (same : skew_of now.sampling ≡ skew) (from to : Option (List ℕ)) where
   next_are : (more : List ℕ) → (others : List Entry) × ((read_of p (bytes ++ more)).entries ≡ reverse said ++ (e ∷ others))
   next_are more = let goes = goes_on p now.reader bytes (e ∷ said) v read named more in (goes.others, goes.are ∙ onto e said goes.others)
 

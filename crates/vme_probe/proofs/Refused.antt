@@ -52,7 +52,8 @@ none_more s waits h = cc
 
 module _ (p : Plan) (ok : IsAccepted p) where
   -- a head that is refused begins no possible capture
-  unbegun : (v : Version) (said : List Entry) → AllSaid p said → (waits : List SeenChange) (lines : List ℕ) → Judged p v None said None waits lines → CannotBegin p v said → IsPossible p (capture_of v said) → ⊥
+  unbegun : (v : Version) (said : List Entry) → AllSaid p said → (waits : List SeenChange) (lines : List ℕ) → Judged p v None said None waits lines → CannotBegin p v said
+      → IsPossible p (capture_of v said) → ⊥
   unbegun v said all waits lines judged cannot may = by_running (is_running said) cannot.cannot
     where
       by_running : (b : Bool) → CannotStart p (probes_of p said) (is_low_by said) cannot.probed b → ⊥
@@ -80,7 +81,8 @@ module _ (p : Plan) (ok : IsAccepted p) where
               (subst (λ k. Tied p ok x.version x.said k) (sym (same_known has.known x.is.after has.sample has.waits (none_wait p x.version x.said has.before has.waits has.lines has.judged) has.takes))
               (tied_end p ok x.version x.said all has.before has.waits has.lines has.judged has.known has.begun))
               x.is.last x.is.ends;
-          is = x.is.is ∙ ap (λ l. l ++ x.is.last) (has.is ∙ (ap (λ l. has.lines ++ l) (nothing_more has.known x.is.after has.sample has.waits (none_wait p x.version x.said has.before has.waits has.lines has.judged) has.takes) ∙ append-nil has.lines));
+          is = x.is.is ∙ ap (λ l. l ++ x.is.last) (has.is ∙ (ap (λ l. has.lines ++ l) (nothing_more has.known x.is.after has.sample has.waits
+              (none_wait p x.version x.said has.before has.waits has.lines has.judged) has.takes) ∙ append-nil has.lines));
         }
       where
         same_known : (old new : Known) (lines : List ℕ) (waits : List SeenChange) → waits ≡ [] → TakesSample p old waits new lines → new ≡ old

@@ -23,7 +23,8 @@ use Rattle.vme_probe.specs.Sampled.{AddsRefused, Refuses, RefusesFirst, all_plac
 use Rattle.vme_probe.specs.Steps.{ChangeTaken, IsOfChange, IsOfSample, SampleTaken, SeveralTaken}
 
 -- the line of one change more
-pub placed_more : (sample : List SeenChange) (set : Places) (makers : Makers) (n : ℕ) (s : SeenChange) (there : Bool) (d : Drivers) (old new : List ℕ) → slice_get sample n ≡ Some s → there ≡ has_place set n → d ≡ by_at makers n → old ≡ placed_lines sample set makers n → new ≡ old ++ placed_line (Some s) there d → new ≡ placed_lines sample set makers (n + 1)
+pub placed_more : (sample : List SeenChange) (set : Places) (makers : Makers) (n : ℕ) (s : SeenChange) (there : Bool) (d : Drivers) (old new : List ℕ) → slice_get sample n ≡ Some s
+    → there ≡ has_place set n → d ≡ by_at makers n → old ≡ placed_lines sample set makers n → new ≡ old ++ placed_line (Some s) there d → new ≡ placed_lines sample set makers (n + 1)
 placed_more sample set makers n s there d old new at is by so added =
     rw (add-one n) (added ∙ ap (λ (l : List ℕ). l ++ placed_line (Some s) there d) so
     ∙ ap (λ (o : Option SeenChange). placed_lines sample set makers n ++ placed_line o there d) (sym at)
@@ -34,7 +35,8 @@ pub none_refused : (p : Plan) (v : Version) (hidden : Standings) (sample : List 
 none_refused p v hidden sample set old = record { text = []; added = sym (append-nil old); refuses = (refl, refl) }
 
 -- what stands in the way of one change more
-pub refused_more : (p : Plan) (v : Version) (hidden : Standings) (sample : List SeenChange) (set : Places) (n : ℕ) (s : SeenChange) (there here so_far ours : Bool) (first old new : List ℕ) → slice_get sample n ≡ Some s → there ≡ comes_next sample set n
+pub refused_more : (p : Plan) (v : Version) (hidden : Standings) (sample : List SeenChange) (set : Places) (n : ℕ) (s : SeenChange) (there here so_far ours : Bool) (first old new : List ℕ)
+    → slice_get sample n ≡ Some s → there ≡ comes_next sample set n
     → AddsRefused p v hidden sample set n first old so_far → ((text : List ℕ) × (new ≡ old ++ text) × Refuses p v hidden (Some s) there text here) → ours ≡ (so_far || here)
     → AddsRefused p v hidden sample set (n + 1) first new ours
 refused_more p v hidden sample set n s there here so_far ours first old new at is before one so = record {
@@ -54,7 +56,8 @@ refused_more p v hidden sample set n s there here so_far ours first old new at i
 }
 
 -- something is known behind the furthest set
-pub furthest_known : (p : Plan) (probed : Probed) (start : Standings) (sample : List SeenChange) (known : Ways) (set : Places) → AreWays p probed start sample known → IsFurthest known (length sample) set → (st : Standings) × (hidden_behind known set ≡ Some st)
+pub furthest_known : (p : Plan) (probed : Probed) (start : Standings) (sample : List SeenChange) (known : Ways) (set : Places) → AreWays p probed start sample known
+    → IsFurthest known (length sample) set → (st : Standings) × (hidden_behind known set ≡ Some st)
 furthest_known p probed start sample known set ways f = by_order (cases_lt 0 set.bits)
   where
     same_set : (a b : Places) → a.bits ≡ b.bits → a ≡ b
@@ -73,7 +76,8 @@ pub all_first : (sample : List SeenChange) (set : Places) → set.bits ≡ 2 ^ l
 all_first sample set e = ap (λ (n : ℕ). let r : Places = record { bits = n } in r) e
 
 -- what is known behind them
-pub gathered_all : (p : Plan) (probed : Probed) (sample : List SeenChange) (known : Ways) (set : Places) (o r : Option Standings) → set.bits ≡ 2 ^ length sample - 1 → o ≡ r → Gathered p probed sample known set (length sample) o → Gathered p probed sample known (all_places sample) (length sample) r
+pub gathered_all : (p : Plan) (probed : Probed) (sample : List SeenChange) (known : Ways) (set : Places) (o r : Option Standings) → set.bits ≡ 2 ^ length sample - 1 → o ≡ r
+    → Gathered p probed sample known set (length sample) o → Gathered p probed sample known (all_places sample) (length sample) r
 gathered_all p probed sample known set o r e is h =
     subst (λ (x : Option Standings). Gathered p probed sample known (all_places sample) (length sample) x) is
     (subst (λ (x : Places). Gathered p probed sample known x (length sample) o) (all_first sample set e) h)
@@ -85,7 +89,8 @@ single (s ∷ []) d some few = refl
 single (s ∷ t ∷ others) d some few = absurd (omega (arith, few))
 
 -- of one change the sample is that change
-pub one_taken : (p : Plan) (sample : List SeenChange) (s : SeenChange) (old new : Known) (from to : Option (List ℕ)) (r : Result (Option Status) Fault) → sample ≡ s ∷ [] → ChangeTaken p s.moment s.change old new from to r → SampleTaken p sample old new from to r
+pub one_taken : (p : Plan) (sample : List SeenChange) (s : SeenChange) (old new : Known) (from to : Option (List ℕ)) (r : Result (Option Status) Fault) → sample ≡ s ∷ []
+    → ChangeTaken p s.moment s.change old new from to r → SampleTaken p sample old new from to r
 one_taken p sample s old new from to r is h = subst (λ (l : List SeenChange). SampleTaken p l old new from to r) (sym is) (by r h)
   where
     of_one : (text : List ℕ) → IsOfChange p old s.moment s.change text → IsOfSample p old (s ∷ []) text
@@ -97,7 +102,8 @@ one_taken p sample s old new from to r is h = subst (λ (l : List SeenChange). S
     by (Ok (Some status)) x = x
     by (Err f) x = (x.0, x.1, of_one x.1 x.2, x.3)
 
-pub several_taken : (p : Plan) (sample : List SeenChange) (old new : Known) (from to : Option (List ℕ)) (r : Result (Option Status) Fault) → 2 ≤ length sample → SeveralTaken p sample old new from to r → SampleTaken p sample old new from to r
+pub several_taken : (p : Plan) (sample : List SeenChange) (old new : Known) (from to : Option (List ℕ)) (r : Result (Option Status) Fault) → 2 ≤ length sample → SeveralTaken p sample old new from to r
+    → SampleTaken p sample old new from to r
 several_taken p [] old new from to r some h = absurd (omega (arith, some))
 several_taken p (s ∷ []) old new from to r some h = absurd (omega (arith, some))
 several_taken p (s ∷ t ∷ others) old new from to (Ok None) some h = h

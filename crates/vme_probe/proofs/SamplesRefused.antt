@@ -71,7 +71,8 @@ is_head : (o : Option ℕ) → is_none o ≡ true → o ≡ None
 is_head None h = refl
 is_head (Some m) h = absurd (true_false (sym h))
 
-too_late : (p : Plan) (v : Version) (skew : Option ℕ) (said : List Entry) (k : Known) (waits : List SeenChange) (text : List ℕ) (b : Bool) → Judged p v skew said (Some k) waits text → (b && is_none (last_moment said)) ≡ true → ⊥
+too_late : (p : Plan) (v : Version) (skew : Option ℕ) (said : List Entry) (k : Known) (waits : List SeenChange) (text : List ℕ) (b : Bool) → Judged p v skew said (Some k) waits text
+    → (b && is_none (last_moment said)) ≡ true → ⊥
 too_late p v skew said k waits text b h may = late p v skew said k waits text h (is_head (last_moment said) (and_parts b (is_none (last_moment said)) may).1)
 
 -- ---- what was said
@@ -104,7 +105,8 @@ module _ (p : Plan) (ok : IsAccepted p) (v : Version) (skew : ℕ) where
     covers : CoversOrders p ok v said probed judged k.standings
     names : NamesSamples p v said judged text
 
-  behind_head : (said : List Entry) → AllSaid p said → (waits : List SeenChange) (text : List ℕ) → Judged p v (Some skew) said None waits text → (k : Known) → Begins p v said k → Sampled said k waits text
+  behind_head : (said : List Entry) → AllSaid p said → (waits : List SeenChange) (text : List ℕ) → Judged p v (Some skew) said None waits text → (k : Known) → Begins p v said k
+      → Sampled said k waits text
   behind_head said all waits text judged k b =
       let none = begun p v (Some skew) said waits text judged in
       let t = at_head p ok v said all none k b in
@@ -136,7 +138,8 @@ module _ (p : Plan) (ok : IsAccepted p) (v : Version) (skew : ℕ) where
     names = s.names;
   }
 
-  at_change : (said : List Entry) (c : Change) (old new : Known) (waiting waits : List SeenChange) (lines text : List ℕ) → Sampled said old waiting lines → Waits p skew lines old waiting (seen_at said c) new waits text
+  at_change : (said : List Entry) (c : Change) (old new : Known) (waiting waits : List SeenChange) (lines text : List ℕ) → Sampled said old waiting lines
+      → Waits p skew lines old waiting (seen_at said c) new waits text
       → Sampled (entry.Change c ∷ said) new waits text
   at_change said c old new waiting waits lines text s w = by_join (joins skew waiting (seen_at said c).moment) refl waiting refl
     where
@@ -161,7 +164,8 @@ module _ (p : Plan) (ok : IsAccepted p) (v : Version) (skew : ℕ) where
       judged_now : (b : SeenChange) (others : List SeenChange) → waiting ≡ b ∷ others → joins skew waiting a.moment ≡ false → Sampled (entry.Change c ∷ said) new waits text
       judged_now b others is e =
           let j = w.complete e in
-          let t = taken p ok v said s.probed s.version s.probes s.judged old.standings s.covers old s.probed_is refl waiting (subst (λ (l : List SeenChange). 0 < length l) (sym is) (omega arith)) new j.0 j.1 in
+          let t = taken p ok v said s.probed s.version s.probes s.judged old.standings s.covers old s.probed_is refl waiting
+          (subst (λ (l : List SeenChange). 0 < length l) (sym is) (omega arith)) new j.0 j.1 in
           record {
             probed = s.probed;
             probed_is = t.probed_is;
@@ -203,7 +207,8 @@ module _ (p : Plan) (ok : IsAccepted p) (v : Version) (skew : ℕ) where
   -- ---- the whole capture
 
   -- with the sample that waits
-  ended : (said : List Entry) (k : Known) (waits : List SeenChange) (lines : List ℕ) → Sampled said k waits lines → (new : Known) (text : List ℕ) → TakesSample p k waits new text → NamesSamples p v said (samples skew said) (lines ++ text)
+  ended : (said : List Entry) (k : Known) (waits : List SeenChange) (lines : List ℕ) → Sampled said k waits lines → (new : Known) (text : List ℕ) → TakesSample p k waits new text
+      → NamesSamples p v said (samples skew said) (lines ++ text)
   ended said k [] lines s new text t =
       subst (λ js. NamesSamples p v said js (lines ++ text)) (sym s.are)
       (subst (NamesSamples p v said s.judged) (sym (ap (λ (l : List ℕ). lines ++ l) t.1 ∙ append-nil lines)) s.names)
@@ -211,7 +216,8 @@ module _ (p : Plan) (ok : IsAccepted p) (v : Version) (skew : ℕ) where
       let x = taken p ok v said s.probed s.version s.probes s.judged k.standings s.covers k s.probed_is refl (w ∷ waits) (omega arith) new text t in
       subst (λ js. NamesSamples p v said js (lines ++ text)) (sym s.are) (lines, x.by, s.names, x.named, ap (λ l. lines ++ l) x.is)
 
-  all_named : (said : List Entry) → AllSaid p said → (before : Option Known) (waits : List SeenChange) (lines : List ℕ) → Judged p v (Some skew) said before waits lines → (k : Known) → Begun p v said before k
+  all_named : (said : List Entry) → AllSaid p said → (before : Option Known) (waits : List SeenChange) (lines : List ℕ) → Judged p v (Some skew) said before waits lines → (k : Known)
+      → Begun p v said before k
       → (new : Known) (text : List ℕ) → TakesSample p k waits new text → NamesSamples p v said (samples skew said) (lines ++ text)
   all_named said all None waits lines judged k b new text t = ended said k waits lines (behind_head said all waits lines judged k b) new text t
   all_named said all (Some j) waits lines judged k b new text t = ended said k waits lines (subst (λ x. Sampled said x waits lines) b (sampled said all j waits lines judged)) new text t
@@ -248,7 +254,8 @@ module _ (p : Plan) (ok : IsAccepted p) (v : Version) (skew : ℕ) where
           is = is;
         }
 
-    sample_refused : (said others : List Entry) → (read_of p bytes).version ≡ Some v → (read_of p bytes).entries ≡ reverse said ++ others → (k : Known) (waits : List SeenChange) (lines last text : List ℕ)
+    sample_refused : (said others : List Entry) → (read_of p bytes).version ≡ Some v → (read_of p bytes).entries ≡ reverse said ++ others
+        → (k : Known) (waits : List SeenChange) (lines last text : List ℕ)
         → Judged p v (Some skew) said (Some k) waits lines → StopsSample p k waits last → text ≡ lines ++ last → IsRefusedInOrders p skew (read_of p bytes) text
     sample_refused said others named are k [] lines last text judged stops is = absurd stops
     sample_refused said others named are k (w ∷ waits) lines last text judged stops is =
@@ -290,7 +297,8 @@ module _ (p : Plan) (ok : IsAccepted p) (skew : ℕ) (bytes : List ℕ) where
     where
       by_next : (e : Entry) → (read_of p bytes).entries ≡ reverse x.said ++ e ∷ x.others → StopsAt p x.version (Some skew) x.said e text → IsRefusedInOrders p skew (read_of p bytes) text
       by_next (entry.Moment m) are (waits, lines, judged, cannot, is) = head_refused p ok x.version skew bytes x.said (entry.Moment m ∷ x.others) x.named are waits lines text judged cannot is
-      by_next (entry.Change c) are (before, waiting, lines, last, judged, stops, is) = sample_refused p ok x.version skew bytes x.said (entry.Change c ∷ x.others) x.named are before waiting lines last text judged stops.1 is
+      by_next (entry.Change c) are (before, waiting, lines, last, judged, stops, is) = sample_refused p ok x.version skew bytes x.said
+          (entry.Change c ∷ x.others) x.named are before waiting lines last text judged stops.1 is
       by_next (entry.Pin q) are h = absurd h
       by_next entry.Running are h = absurd h
       by_next (entry.Low y) are h = absurd h
@@ -298,11 +306,13 @@ module _ (p : Plan) (ok : IsAccepted p) (skew : ℕ) (bytes : List ℕ) where
   end_refused : (text : List ℕ) → IsImpossibleAtEnd p (Some skew) (read_of p bytes) text → IsRefusedInOrders p skew (read_of p bytes) text
   end_refused text x = by_end x.is (x.are ∙ sym (append-nil (reverse x.said)))
     where
-      by_end : IsUnbegun p x.version (Some skew) x.said text ⊎ IsStoppedAtEnd p x.version (Some skew) x.said text → (read_of p bytes).entries ≡ reverse x.said ++ [] → IsRefusedInOrders p skew (read_of p bytes) text
+      by_end : IsUnbegun p x.version (Some skew) x.said text ⊎ IsStoppedAtEnd p x.version (Some skew) x.said text → (read_of p bytes).entries ≡ reverse x.said ++ []
+          → IsRefusedInOrders p skew (read_of p bytes) text
       by_end (inl u) are = head_refused p ok x.version skew bytes x.said [] x.named are u.waits u.lines text u.judged u.cannot u.is
       by_end (inr s) are = sample_refused p ok x.version skew bytes x.said [] x.named are s.known s.waits s.lines s.others text s.judged s.stops s.is
 
-pub possible_named : (p : Plan) (skew : ℕ) (bytes : List ℕ) (s : Streams) → IsAccepted p → Probes p (Some skew) bytes s (Ok Done) → (text : List ℕ) × NamesAllSamples p skew (read_of p bytes) text × Wrote s text
+pub possible_named : (p : Plan) (skew : ℕ) (bytes : List ℕ) (s : Streams) → IsAccepted p → Probes p (Some skew) bytes s (Ok Done) → (text : List ℕ) × NamesAllSamples p skew (read_of p bytes) text
+    × Wrote s text
 possible_named p skew bytes s ok h = (h.1, whole_named p ok skew bytes h.1 h.2, h.3)
 
 pub impossible_refused : (p : Plan) (skew : ℕ) (bytes : List ℕ) (s : Streams) → IsAccepted p → Probes p (Some skew) bytes s (Ok SomeRefused)

@@ -76,7 +76,8 @@ module _ (p : Plan) (ok : IsAccepted p) (v : Version) (said : List Entry) where
   pub begins_as : (xs ys : List Change) (g : List Edge) → CaptureBegins p (in_order v said xs) g → CaptureBegins p (in_order v said ys) g
   begins_as xs ys g b = record { power_up = b.power_up; legal = b.legal; levels = b.levels }
 
-  module _ (probed : Probed) (version : v ≡ probed.version) (probes : AreProbed p (pins said) probed.segments) (judged : List (List SeenChange)) (old : Standings) (covered : CoversOrders probed judged old) where
+  module _ (probed : Probed) (version : v ≡ probed.version) (probes : AreProbed p (pins said) probed.segments) (judged : List (List SeenChange)) (old : Standings)
+      (covered : CoversOrders probed judged old) where
     -- the edges of a sample, and those before it
     module _ (here before : List Change) (g h : List Edge) (orders : AreOrdersOf judged before) (x : Explains p (in_order v said (here ++ before)) g h) where
       s : Splits p (pins said) g h here before
@@ -103,7 +104,8 @@ module _ (p : Plan) (ok : IsAccepted p) (v : Version) (said : List Entry) where
 
       -- ---- several changes
 
-      module _ (sample : List SeenChange) (places : List ℕ) (order : IsOrderOf sample places here) (some : 0 < length sample) (known : List (Option Standings)) (ways : AreWays p probed old sample known) where
+      module _ (sample : List SeenChange) (places : List ℕ) (order : IsOrderOf sample places here) (some : 0 < length sample) (known : List (Option Standings))
+          (ways : AreWays p probed old sample known) where
         abbrev shows : ShowsIn probed.version p (pins said) (s.earlier ++ g) s.later sample
         shows = record { places = places; changes = here; order = order; legal = legal; agree = s.here_agree }
 
@@ -126,7 +128,8 @@ module _ (p : Plan) (ok : IsAccepted p) (v : Version) (said : List Entry) where
 
       module _ (c : Change) (is : here ≡ c ∷ []) (hidden : Standings) (moved : HasMoved p probed old hidden) where
         one : Alone p ok (pins said) probed probes (s.earlier ++ g) old so_far hidden moved c (s.later ++ (s.earlier ++ g)) (sightings p (pins said) (s.earlier ++ g) s.later)
-        one = alone p ok (pins said) probed probes (s.earlier ++ g) old so_far hidden moved c s.later legal (subst (λ ks. AgreeEach ks (sightings p (pins said) (s.earlier ++ g) s.later)) is s.here_agree)
+        one = alone p ok (pins said) probed probes (s.earlier ++ g) old so_far hidden moved c s.later legal
+            (subst (λ ks. AgreeEach ks (sightings p (pins said) (s.earlier ++ g) s.later)) is s.here_agree)
 
         one_covers : (new : Standings) → IsBehind p probed hidden c new → CoversHidden p (pins said) probed (h ++ g) new
         one_covers new behind = back new (one.over new behind)

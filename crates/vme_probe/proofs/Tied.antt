@@ -96,7 +96,8 @@ strobe_high p (entry.Low y ∷ said) all =
     may : may_be_low y ≡ true
     may = (and_parts (is_signal y) (may_be_low y) (formed p said (entry.Low y) all.0)).1
 
-    by_test : (b : Bool) → is_same_signal (signal.Line on_line.AddressStrobe) y ≡ b → is_among (lows said) (signal.Line on_line.AddressStrobe) ≡ false → (b || is_among (lows said) (signal.Line on_line.AddressStrobe)) ≡ false
+    by_test : (b : Bool) → is_same_signal (signal.Line on_line.AddressStrobe) y ≡ b → is_among (lows said) (signal.Line on_line.AddressStrobe) ≡ false
+        → (b || is_among (lows said) (signal.Line on_line.AddressStrobe)) ≡ false
     by_test true same high =
         absurd (true_false (sym may ∙ ap may_be_low (sym (signal_same (signal.Line on_line.AddressStrobe) y same))))
     by_test false same high = high
@@ -263,7 +264,8 @@ module _ (p : Plan) (ok : IsAccepted p) where
   is_head None h = refl
   is_head (Some m) h = absurd (true_false (sym h))
 
-  too_late : (v : Version) (said : List Entry) (k : Known) (waits : List SeenChange) (text : List ℕ) (b : Bool) → Judged p v None said (Some k) waits text → (b && is_none (last_moment said)) ≡ true → ⊥
+  too_late : (v : Version) (said : List Entry) (k : Known) (waits : List SeenChange) (text : List ℕ) (b : Bool) → Judged p v None said (Some k) waits text → (b && is_none (last_moment said)) ≡ true
+      → ⊥
   too_late v said k waits text b h may = known_late v said k waits text h (is_head (last_moment said) (and_parts b (is_none (last_moment said)) may).1)
 
   -- a moment leaves it
@@ -316,6 +318,7 @@ module _ (p : Plan) (ok : IsAccepted p) where
       (at_change v said c h.0 h.3 h.5.0.drivers (tied v said all.1 h.0 h.1 h.2 h.4) h.5.0.follows)
 
   -- at the end of a capture
-  pub tied_end : (v : Version) (said : List Entry) → AllSaid p said → (before : Option Known) (waits : List SeenChange) (text : List ℕ) → Judged p v None said before waits text → (k : Known) → Begun p v said before k → Tied v said k
+  pub tied_end : (v : Version) (said : List Entry) → AllSaid p said → (before : Option Known) (waits : List SeenChange) (text : List ℕ) → Judged p v None said before waits text → (k : Known)
+      → Begun p v said before k → Tied v said k
   tied_end v said all None waits text judged k b = at_head v said all (begun p v None said waits text judged) k b
   tied_end v said all (Some j) waits text judged k b = subst (λ x. Tied v said x) b (tied v said all j waits text judged)

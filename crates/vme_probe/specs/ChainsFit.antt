@@ -62,7 +62,8 @@ is_expired _ = false
 
 -- The phase is one of this backplane, BBSY* is low exactly while a board holds the bus, and each
 -- probed segment of the grant chains is low exactly if it is low in the phase.
-pub record AgreesWithProbes (p : Plan) (probed : Probed) (st : Standings) (q : GrantPhase) : Type 0 where
+pub record AgreesWithProbes (p : Plan) (probed : Probed) (st : Standings)
+    (q : GrantPhase) : Type 0 where
   pub near : is_in_table q ≡ true
   pub named : is_named p q ≡ true
   pub two : is_expired q ≡ true → is_two probed.version ≡ true

@@ -1,6 +1,6 @@
 -- What the conditions of a change ask of the standings of a record, and which of them fails first.
--- (The phases of the grants, and how the acknowledge and the interrupt requests may stand, are those
--- of `vme_standings`. The words here are this project's.)
+-- (The phases of the grants, and how the acknowledge and the interrupt requests may stand, are
+-- those of `vme_standings`. The words here are this project's.)
 use Rattle.std.specs.Prelude.{◌==◌, ◌&&◌, ◌||◌, ◌∷◌, ◌++◌, if◌then◌else◌, [], ℕ, Bool, true, false, not, List, Option, Some, None, nat_le}
 use Rattle.std.specs.List.{list_all, list_any}
 use Rattle.std.specs.Option.{option_and_then, option_map_or}

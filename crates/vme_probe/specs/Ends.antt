@@ -163,7 +163,8 @@ Coming p probed st (c ∷ cs) text =
     × Coming p probed st cs others × (text ≡ may_come_line c d ++ others)
 
 -- these lines are appended
-pub record AddsComing (p : Plan) (probed : Probed) (st : Standings) (cs : List Change) (old new : List ℕ) : Type 0 where
+pub record AddsComing (p : Plan) (probed : Probed) (st : Standings) (cs : List Change)
+    (old new : List ℕ) : Type 0 where
   pub text : List ℕ
   pub added : new ≡ old ++ text
   pub coming : Coming p probed st cs text
@@ -185,7 +186,8 @@ pub record IsStanding (p : Plan) (st : Standings) (changes : ℕ) (text : List �
   pub is : text ≡ standing_text p st holders places changes
 
 -- and what may come next, with these probes
-pub record IsEnd (p : Plan) (probed : Probed) (st : Standings) (probes : List Probe) (changes : ℕ) (text : List ℕ) : Type 0 where
+pub record IsEnd (p : Plan) (probed : Probed) (st : Standings) (probes : List Probe) (changes : ℕ)
+    (text : List ℕ) : Type 0 where
   pub standing : List ℕ
   pub stands : IsStanding p st changes standing
   pub adds : AddsComing p probed st (next_changes st probes) standing text

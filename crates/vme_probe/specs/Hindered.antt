@@ -24,7 +24,8 @@ is_hindered p version st c d = is_some (obstacle p version st c d)
 
 -- So it is for each that has the line of the change, or drives its wire, and is none of those that
 -- may have made it.
-pub record AreOthersHindered (p : Plan) (version : Version) (st : Standings) (c : Change) (may : Drivers) : Type 0 where
+pub record AreOthersHindered (p : Plan) (version : Version) (st : Standings) (c : Change)
+    (may : Drivers) : Type 0 where
   pub controller : controller_drives (moved_by p c.signal) ≡ true → may.controller ≡ false
       → is_hindered p version st c Controller ≡ true
   pub boards : (s : ℕ) → drives p (moved_by p c.signal) s ≡ true → has may.boards s ≡ false

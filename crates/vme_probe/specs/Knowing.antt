@@ -41,7 +41,8 @@ pub record IsProbed (version : Version) (probes : List Probe) (probed : Probed) 
   pub segments : HoldsProbed false probes probed.segments
 
 -- the levels of the shared lines and of these probes
-pub record AreLevels (probes : List Probe) (is_low : Line → Bool) (lines : Levels) (low : Segments) : Type 0 where
+pub record AreLevels (probes : List Probe) (is_low : Line → Bool) (lines : Levels)
+    (low : Segments) : Type 0 where
   pub lines_are : (l : Line) → is_line l ≡ true → is_line_left_low lines l ≡ is_low l
   pub low_are : HoldsProbed true probes low
 
@@ -60,13 +61,15 @@ CannotStart p probes is_low probed true =
     × CannotRun p probed lines low
 
 -- what is known before the first change
-pub record BeginsWith (p : Plan) (version : Version) (probes : List Probe) (is_low : Line → Bool) (running : Bool) (k : Known) : Type 0 where
+pub record BeginsWith (p : Plan) (version : Version) (probes : List Probe) (is_low : Line → Bool)
+    (running : Bool) (k : Known) : Type 0 where
   pub probed : IsProbed version probes k.probed
   pub start : StartsWith p probes is_low k.probed running k.standings
   pub none : k.changes ≡ 0
 
 -- no bus that keeps the rules has the levels
-pub record CannotBeginWith (p : Plan) (version : Version) (probes : List Probe) (is_low : Line → Bool) (running : Bool) : Type 0 where
+pub record CannotBeginWith (p : Plan) (version : Version) (probes : List Probe)
+    (is_low : Line → Bool) (running : Bool) : Type 0 where
   pub probed : Probed
   pub probed_is : IsProbed version probes probed
   pub cannot : CannotStart p probes is_low probed running
@@ -139,14 +142,16 @@ Begun p version said None k = Begins p version said k
 Begun p version said (Some j) k = j ≡ k
 
 -- a line for each change
-pub record Takes (p : Plan) (before : List ℕ) (old : Known) (m : ℕ) (c : Change) (new : Known) (text : List ℕ) : Type 0 where
+pub record Takes (p : Plan) (before : List ℕ) (old : Known) (m : ℕ) (c : Change) (new : Known)
+    (text : List ℕ) : Type 0 where
   pub drivers : Drivers
   pub follows : Follows p old c drivers new
   pub is : text ≡ before ++ change_line m c drivers
 
 -- A change belongs to the sample that waits, and waits with it; or that sample is complete, and is
 -- judged. A sample has at most 12 changes.
-pub record Waits (p : Plan) (skew : ℕ) (before : List ℕ) (old : Known) (waiting : List SeenChange) (s : SeenChange) (new : Known) (waits : List SeenChange) (text : List ℕ) : Type 0 where
+pub record Waits (p : Plan) (skew : ℕ) (before : List ℕ) (old : Known) (waiting : List SeenChange)
+    (s : SeenChange) (new : Known) (waits : List SeenChange) (text : List ℕ) : Type 0 where
   pub joined : joins skew waiting s.moment ≡ true
       → (length waiting < 12) × (waits ≡ waiting ++ s ∷ []) × (new ≡ old) × (text ≡ before)
   pub complete : joins skew waiting s.moment ≡ false
@@ -167,8 +172,8 @@ abbrev pub seen_at : List Entry → Change → SeenChange
 seen_at said c = record { moment = unwrap_or (last_moment said) 0; change = c }
 
 -- Behind what was said: what is known, once the head has ended, the changes that wait for their
--- sample to be complete, and the lines that are written. Somebody may have made each change that was
--- judged.
+-- sample to be complete, and the lines that are written. Somebody may have made each change that
+-- was judged.
 abbrev pub Judged :
     Plan → Version → Option ℕ → List Entry → Option Known → List SeenChange → List ℕ → Type 0
 Judged p version skew [] known waits text = (known ≡ None) × (waits ≡ []) × (text ≡ [])
@@ -209,7 +214,8 @@ StopsAt p version skew said (entry.Change c) text =
 StopsAt p version skew said _ text = ⊥
 
 -- a 13th change of a sample was said last, and these lines are written of what was judged before
-pub record IsOverfull (p : Plan) (version : Version) (skew : Option ℕ) (said : List Entry) (c : Change) (text : List ℕ) : Type 0 where
+pub record IsOverfull (p : Plan) (version : Version) (skew : Option ℕ) (said : List Entry)
+    (c : Change) (text : List ℕ) : Type 0 where
   pub most : ℕ
   pub skew_is : skew ≡ Some most
   pub known : Known
@@ -220,7 +226,8 @@ pub record IsOverfull (p : Plan) (version : Version) (skew : Option ℕ) (said :
 
 -- The lines of all changes of a capture that says this, and what is known then: somebody may have
 -- made each change.
-pub record HasLines (p : Plan) (version : Version) (skew : Option ℕ) (said : List Entry) (after : Known) (text : List ℕ) : Type 0 where
+pub record HasLines (p : Plan) (version : Version) (skew : Option ℕ) (said : List Entry)
+    (after : Known) (text : List ℕ) : Type 0 where
   pub before : Option Known
   pub waits : List SeenChange
   pub lines : List ℕ
@@ -232,7 +239,8 @@ pub record HasLines (p : Plan) (version : Version) (skew : Option ℕ) (said : L
   pub is : text ≡ lines ++ sample
 
 -- All that is written of such a capture.
-pub record IsWhole (p : Plan) (version : Version) (skew : Option ℕ) (said : List Entry) (text : List ℕ) : Type 0 where
+pub record IsWhole (p : Plan) (version : Version) (skew : Option ℕ) (said : List Entry)
+    (text : List ℕ) : Type 0 where
   pub after : Known
   pub lines : List ℕ
   pub has : HasLines p version skew said after lines
@@ -241,7 +249,8 @@ pub record IsWhole (p : Plan) (version : Version) (skew : Option ℕ) (said : Li
   pub is : text ≡ lines ++ last
 
 -- All that is written of a capture that says this, if its last sample is impossible.
-pub record IsStoppedAtEnd (p : Plan) (version : Version) (skew : Option ℕ) (said : List Entry) (text : List ℕ) : Type 0 where
+pub record IsStoppedAtEnd (p : Plan) (version : Version) (skew : Option ℕ) (said : List Entry)
+    (text : List ℕ) : Type 0 where
   pub known : Known
   pub waits : List SeenChange
   pub lines : List ℕ
@@ -251,7 +260,8 @@ pub record IsStoppedAtEnd (p : Plan) (version : Version) (skew : Option ℕ) (sa
   pub is : text ≡ lines ++ others
 
 -- The head alone was said, and its levels are those of no bus that keeps the rules.
-pub record IsUnbegun (p : Plan) (version : Version) (skew : Option ℕ) (said : List Entry) (text : List ℕ) : Type 0 where
+pub record IsUnbegun (p : Plan) (version : Version) (skew : Option ℕ) (said : List Entry)
+    (text : List ℕ) : Type 0 where
   pub waits : List SeenChange
   pub lines : List ℕ
   pub judged : Judged p version skew said None waits lines

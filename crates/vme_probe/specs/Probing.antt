@@ -56,7 +56,8 @@ pub record HasAllLines (p : Plan) (skew : Option ℕ) (r : Reading) (text : List
 
 -- The levels of a whole head without a moment are those of no bus that keeps the rules; or the last
 -- sample of a whole capture is impossible.
-pub record IsImpossibleAtEnd (p : Plan) (skew : Option ℕ) (r : Reading) (text : List ℕ) : Type 0 where
+pub record IsImpossibleAtEnd (p : Plan) (skew : Option ℕ) (r : Reading)
+    (text : List ℕ) : Type 0 where
   pub version : Version
   pub named : r.version ≡ Some version
   pub whole : r.fault ≡ None
@@ -85,7 +86,8 @@ pub record IsOverfullIn (p : Plan) (skew : Option ℕ) (r : Reading) (text : Lis
   pub is : IsOverfull p version skew said next text
 
 -- The lines of all changes behind what was said first that were judged.
-pub record IsJudged (p : Plan) (skew : Option ℕ) (r : Reading) (said : List Entry) (text : List ℕ) : Type 0 where
+pub record IsJudged (p : Plan) (skew : Option ℕ) (r : Reading) (said : List Entry)
+    (text : List ℕ) : Type 0 where
   pub others : List Entry
   pub are : r.entries ≡ reverse said ++ others
   pub known : Option Known

@@ -33,7 +33,8 @@ waiting_in None = []
 waiting_in (Some s) = s.sample.changes.items
 
 -- these bytes were read, and what they say was judged and written
-pub record IsAt (p : Plan) (skew : Option ℕ) (now : Judging) (bytes : List ℕ) (from to : Option (List ℕ)) : Type 0 where
+pub record IsAt (p : Plan) (skew : Option ℕ) (now : Judging) (bytes : List ℕ)
+    (from to : Option (List ℕ)) : Type 0 where
   pub skew_is : skew_of now.sampling ≡ skew
   pub said : List Entry
   pub read : HasRead p now.reader bytes said
@@ -42,7 +43,8 @@ pub record IsAt (p : Plan) (skew : Option ℕ) (now : Judging) (bytes : List ℕ
   pub wrote : Appends from to text
 
 -- a fault behind what was said, whatever follows these bytes
-pub record Fails (p : Plan) (skew : Option ℕ) (bytes : List ℕ) (f : CaptureFault) (from to : Option (List ℕ)) : Type 0 where
+pub record Fails (p : Plan) (skew : Option ℕ) (bytes : List ℕ) (f : CaptureFault)
+    (from to : Option (List ℕ)) : Type 0 where
   pub said : List Entry
   pub text : List ℕ
   pub fault : (more : List ℕ) → IsFaultAfter (read_of p (bytes ++ more)) said f
@@ -50,19 +52,22 @@ pub record Fails (p : Plan) (skew : Option ℕ) (bytes : List ℕ) (f : CaptureF
   pub wrote : Appends from to text
 
 -- the capture is impossible, whatever follows
-pub record IsStopped (p : Plan) (skew : Option ℕ) (bytes : List ℕ) (from to : Option (List ℕ)) : Type 0 where
+pub record IsStopped (p : Plan) (skew : Option ℕ) (bytes : List ℕ)
+    (from to : Option (List ℕ)) : Type 0 where
   pub text : List ℕ
   pub stops : (more : List ℕ) → StopsIn p skew (read_of p (bytes ++ more)) text
   pub wrote : Appends from to text
 
 -- a 13th change of a sample came, whatever follows
-pub record IsFull (p : Plan) (skew : Option ℕ) (bytes : List ℕ) (from to : Option (List ℕ)) : Type 0 where
+pub record IsFull (p : Plan) (skew : Option ℕ) (bytes : List ℕ)
+    (from to : Option (List ℕ)) : Type 0 where
   pub text : List ℕ
   pub full : (more : List ℕ) → IsOverfullIn p skew (read_of p (bytes ++ more)) text
   pub wrote : Appends from to text
 
 -- the output could not be written
-pub record IsCut (p : Plan) (skew : Option ℕ) (bytes : List ℕ) (from to : Option (List ℕ)) : Type 0 where
+pub record IsCut (p : Plan) (skew : Option ℕ) (bytes : List ℕ)
+    (from to : Option (List ℕ)) : Type 0 where
   pub text : List ℕ
   pub is : (more : List ℕ) → IsToWrite p skew (read_of p (bytes ++ more)) text
   pub wrote : AppendsFront from to text
@@ -99,7 +104,8 @@ EndTaken p skew bytes from to (Err (fault.Engine (engine.Trace f))) =
 EndTaken p skew bytes from to (Err (fault.Engine _)) = ⊥
 
 -- what the reader gave was read, judged and written
-pub record ReadsTo (p : Plan) (skew : Option ℕ) (now : Judging) (from to old new : Option (List ℕ)) : Type 0 where
+pub record ReadsTo (p : Plan) (skew : Option ℕ) (now : Judging)
+    (from to old new : Option (List ℕ)) : Type 0 where
   pub bytes : List ℕ
   pub at : IsAt p skew now bytes old new
   pub consumed : Consumes from to bytes

@@ -52,7 +52,8 @@ RefusesFirst p v hidden sample set (suc n) text ours =
     × (text ≡ before ++ one) × (ours ≡ (so_far || here))
 
 -- they are appended
-pub record AddsRefused (p : Plan) (v : Version) (hidden : Standings) (sample : List SeenChange) (set : Places) (n : ℕ) (old new : List ℕ) (ours : Bool) : Type 0 where
+pub record AddsRefused (p : Plan) (v : Version) (hidden : Standings) (sample : List SeenChange)
+    (set : Places) (n : ℕ) (old new : List ℕ) (ours : Bool) : Type 0 where
   pub text : List ℕ
   pub added : new ≡ old ++ text
   pub refuses : RefusesFirst p v hidden sample set n text ours
@@ -64,7 +65,8 @@ abbrev pub all_places : List SeenChange → Places
 all_places sample = record { bits = 2 ^ length sample - 1 }
 
 -- all changes of a sample may have been made, and then that is known
-pub record Samples (p : Plan) (old : Known) (sample : List SeenChange) (new : Known) (text : List ℕ) : Type 0 where
+pub record Samples (p : Plan) (old : Known) (sample : List SeenChange) (new : Known)
+    (text : List ℕ) : Type 0 where
   pub ways : Ways
   pub are_ways : AreWays p old.probed old.standings sample ways
   pub behind : Gathered p old.probed sample ways (all_places sample) (length sample)
@@ -77,7 +79,8 @@ pub record Samples (p : Plan) (old : Known) (sample : List SeenChange) (new : Kn
 
 -- They cannot: as many as can were made, what stands in the way of those that come next is written,
 -- and the moment of the sample's first change.
-pub record CannotSample (p : Plan) (old : Known) (sample : List SeenChange) (text : List ℕ) : Type 0 where
+pub record CannotSample (p : Plan) (old : Known) (sample : List SeenChange)
+    (text : List ℕ) : Type 0 where
   pub ways : Ways
   pub are_ways : AreWays p old.probed old.standings sample ways
   pub none : Gathered p old.probed sample ways (all_places sample) (length sample) None

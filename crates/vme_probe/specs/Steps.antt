@@ -130,7 +130,8 @@ NextTaken p (Some skew) waiting s old new waits from to answer =
     SeenTaken p skew waiting s old new waits from to answer
 
 -- what is known and written behind what was said, what waits, and the output since its beginning
-pub record Stands (p : Plan) (skew : Option ℕ) (version : Version) (said : List Entry) (known : Option Known) (waits : List SeenChange) (from to : Option (List ℕ)) : Type 0 where
+pub record Stands (p : Plan) (skew : Option ℕ) (version : Version) (said : List Entry)
+    (known : Option Known) (waits : List SeenChange) (from to : Option (List ℕ)) : Type 0 where
   pub text : List ℕ
   pub judged : Judged p version skew said known waits text
   pub wrote : Appends from to text

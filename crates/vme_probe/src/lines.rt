@@ -113,7 +113,8 @@ pub(crate) fn push_holder(report: &mut Report, holders: SlotSet)
 /// Appends a place at which a grant may stand, if it is to be there: at most 14 bytes.
 fn push_place(places: &mut Places, is_there: bool, level: u8, slot: u8)
     requires { array_vec_len places.old + 14 ≤ 1280 }
-    ensures items { places.new.items ≡ with_place places.old.items is_there (place_text level slot) }
+    ensures items { places.new.items
+        ≡ with_place places.old.items is_there (place_text level slot) }
     ensures len { array_vec_len places.new ≤ array_vec_len places.old + 14 }
 {
     if is_there {

@@ -11,7 +11,8 @@ pub loop-below-preserved : goal.loop-below-preserved
 loop-below-preserved c = record {
   adds =
       adds_as c.args.plan.now c.args.probed.now c.args.standings.now _ _ _ _ (ap (λ n. next_acknowledges n) (sym (add-one c.loop-below.below)))
-      (adds_both c.args.plan.now c.args.probed.now c.args.standings.now (next_acknowledges c.loop-below.below) (strobe_fall (value.Shown (Acknowledge (c.loop-below.below + 1))) ∷ []) _ _ _ c.loop-below.invariant.adds
+      (adds_both c.args.plan.now c.args.probed.now c.args.standings.now (next_acknowledges c.loop-below.below)
+      (strobe_fall (value.Shown (Acknowledge (c.loop-below.below + 1))) ∷ []) _ _ _ c.loop-below.invariant.adds
       (adds_as c.args.plan.now c.args.probed.now c.args.standings.now _ _ _ _ (ap (λ (x : Change). x ∷ []) c.strobe_fall.ensures) c.push_change.ensures.adds));
   len = omega (arith, c.loop-below.invariant.len, c.push_change.ensures.len);
 }

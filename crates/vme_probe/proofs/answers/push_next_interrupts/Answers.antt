@@ -9,7 +9,8 @@ pub loop-below-preserved : goal.loop-below-preserved
 loop-below-preserved c = record {
   adds =
       adds_as c.args.plan.now c.args.probed.now c.args.standings.now _ _ _ _ (ap (λ n. next_irqs c.args.standings.now n) (sym (add-one c.loop-below.below)))
-      (adds_both c.args.plan.now c.args.probed.now c.args.standings.now (next_irqs c.args.standings.now c.loop-below.below) (next_of c.args.standings.now (line.Irq (c.loop-below.below + 1)) ∷ []) _ _ _ c.loop-below.invariant.adds c.push_next.ensures.adds);
+      (adds_both c.args.plan.now c.args.probed.now c.args.standings.now (next_irqs c.args.standings.now c.loop-below.below)
+      (next_of c.args.standings.now (line.Irq (c.loop-below.below + 1)) ∷ []) _ _ _ c.loop-below.invariant.adds c.push_next.ensures.adds);
   len = omega (arith, c.loop-below.invariant.len, c.push_next.ensures.len);
 }
 

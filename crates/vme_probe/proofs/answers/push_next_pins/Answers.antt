@@ -16,8 +16,10 @@ pub loop-slot-preserved : goal.loop-slot-preserved
 loop-slot-preserved c = record {
   adds =
       adds_as c.args.plan.now c.args.probed.now c.args.standings.now _ _ _ _ (ap (λ n. pins_below c.args.probes.now c.args.chain n) (sym (add-one c.loop-slot.slot)))
-      (adds_both c.args.plan.now c.args.probed.now c.args.standings.now (pins_below c.args.probes.now c.args.chain c.loop-slot.slot) (next_of_probe (probe_at c.args.probes.now (segment_at c.args.chain c.loop-slot.slot))) _ _ _ c.loop-slot.invariant.adds
-      (adds_as c.args.plan.now c.args.probed.now c.args.standings.now _ _ _ _ (ap (λ (x : Option Probe). next_of_probe x) (c.probe_at-probe.ensures ∙ ap (λ g. probe_at c.args.probes.now g) c.segment_at.ensures)) c.push_next_pin.ensures.adds));
+      (adds_both c.args.plan.now c.args.probed.now c.args.standings.now (pins_below c.args.probes.now c.args.chain c.loop-slot.slot)
+      (next_of_probe (probe_at c.args.probes.now (segment_at c.args.chain c.loop-slot.slot))) _ _ _ c.loop-slot.invariant.adds
+      (adds_as c.args.plan.now c.args.probed.now c.args.standings.now _ _ _ _ (ap (λ (x : Option Probe). next_of_probe x)
+      (c.probe_at-probe.ensures ∙ ap (λ g. probe_at c.args.probes.now g) c.segment_at.ensures)) c.push_next_pin.ensures.adds));
   len = omega (arith, c.loop-slot.invariant.len, c.push_next_pin.ensures.len);
 }
 

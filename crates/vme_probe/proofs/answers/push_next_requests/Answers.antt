@@ -9,7 +9,8 @@ pub loop-level-preserved : goal.loop-level-preserved
 loop-level-preserved c = record {
   adds =
       adds_as c.args.plan.now c.args.probed.now c.args.standings.now _ _ _ _ (ap (λ n. next_brs c.args.standings.now n) (sym (add-one c.loop-level.level)))
-      (adds_both c.args.plan.now c.args.probed.now c.args.standings.now (next_brs c.args.standings.now c.loop-level.level) (next_of c.args.standings.now (line.Br c.loop-level.level) ∷ []) _ _ _ c.loop-level.invariant.adds c.push_next.ensures.adds);
+      (adds_both c.args.plan.now c.args.probed.now c.args.standings.now (next_brs c.args.standings.now c.loop-level.level)
+      (next_of c.args.standings.now (line.Br c.loop-level.level) ∷ []) _ _ _ c.loop-level.invariant.adds c.push_next.ensures.adds);
   len = omega (arith, c.loop-level.invariant.len, c.push_next.ensures.len);
 }
 

@@ -14,5 +14,6 @@ returns c s =
 
 pub loop-slot-preserved : goal.loop-slot-preserved
 loop-slot-preserved c =
-    grow (has c.loop-slot.places) (has c.with_if-places.result) (λ s. is_in c.args.low c.args.probes.now (segment_at c.args.chain s)) c.loop-slot.slot c.is_in-is_there.result c.with_if-places.ensures c.loop-slot.invariant
+    grow (has c.loop-slot.places) (has c.with_if-places.result) (λ s. is_in c.args.low c.args.probes.now
+    (segment_at c.args.chain s)) c.loop-slot.slot c.is_in-is_there.result c.with_if-places.ensures c.loop-slot.invariant
     (c.is_in-is_there.ensures ∙ ap (λ g. is_in c.args.low c.args.probes.now g) c.segment_at.ensures)

@@ -18,14 +18,17 @@ returns-in_err-write_last g c =
     rw (e.1, e.2) (
       c.in_err-write_last.ensures.fault,
       c.stopped_in-report.result.items,
-      inr (c.stopped_in-report.ensures c.fill.ensures (gathered_all c.args.plan.now c.args.self.now.probed c.args.sample.now c.fill.new.self.known.items c.first-all.result c.behind.result None c.first-all.ensures c.in_default.is c.behind.ensures)),
+      inr (c.stopped_in-report.ensures c.fill.ensures
+          (gathered_all c.args.plan.now c.args.self.now.probed c.args.sample.now c.fill.new.self.known.items c.first-all.result c.behind.result
+          None c.first-all.ensures c.in_default.is c.behind.ensures)),
       subst (λ (l : List ℕ). AppendsFront (g.W.Write.contents c.args.out.now) (g.W.Write.contents c.write_last.new.out) l) c.as_slice.ensures.value c.in_err-write_last.ensures.front,
     )
 
 pub returns-in_default : goal.returns-in_default
 returns-in_default g c = (
   c.stopped_in-report.result.items,
-  c.stopped_in-report.ensures c.fill.ensures (gathered_all c.args.plan.now c.args.self.now.probed c.args.sample.now c.fill.new.self.known.items c.first-all.result c.behind.result None c.first-all.ensures c.in_default.is c.behind.ensures),
+  c.stopped_in-report.ensures c.fill.ensures
+      (gathered_all c.args.plan.now c.args.self.now.probed c.args.sample.now c.fill.new.self.known.items c.first-all.result c.behind.result None c.first-all.ensures c.in_default.is c.behind.ensures),
   subst (λ (l : List ℕ). Appends (g.W.Write.contents c.args.out.now) (g.W.Write.contents c.write_last.new.out) l) c.as_slice.ensures.value c.in_ok-write_last.ensures.ok,
   refl,
 )
@@ -54,13 +57,16 @@ returns-in_err-put g c =
         record {
           ways = c.fill.new.self.known.items;
           are_ways = c.fill.ensures;
-          behind = gathered_all c.args.plan.now c.args.self.now.probed c.args.sample.now c.fill.new.self.known.items c.first-all.result c.behind.result (Some c.in-Some.standings) c.first-all.ensures c.in-Some.is c.behind.ensures;
+          behind = gathered_all c.args.plan.now c.args.self.now.probed c.args.sample.now c.fill.new.self.known.items c.first-all.result c.behind.result
+              (Some c.in-Some.standings) c.first-all.ensures c.in-Some.is c.behind.ensures;
           makers = c.makers-makers.result;
-          are_makers = subst (λ (set : Places). AreMakers c.args.plan.now c.args.self.now.probed c.args.sample.now c.fill.new.self.known.items set (by_at c.makers-makers.result)) all c.makers-makers.ensures.makers;
+          are_makers = subst (λ (set : Places). AreMakers c.args.plan.now c.args.self.now.probed c.args.sample.now c.fill.new.self.known.items set
+              (by_at c.makers-makers.result)) all c.makers-makers.ensures.makers;
           is = refl;
           probed = refl;
           changes = refl;
         },
       ),
-      subst (λ (l : List ℕ). AppendsFront (g.W.Write.contents c.args.out.now) (g.W.Write.contents c.put.new.out) l) (c.as_slice-2.ensures.value ∙ c.push_placed.ensures.items ∙ ap lines all) c.in_err-put.ensures.front,
+      subst (λ (l : List ℕ). AppendsFront (g.W.Write.contents c.args.out.now) (g.W.Write.contents c.put.new.out) l)
+          (c.as_slice-2.ensures.value ∙ c.push_placed.ensures.items ∙ ap lines all) c.in_err-put.ensures.front,
     )

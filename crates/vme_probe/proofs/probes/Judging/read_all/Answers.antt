@@ -21,17 +21,20 @@ returns-in_err-status g c =
 
 pub returns-in-Some : goal.returns-in-Some
 returns-in-Some g c =
-    subst (λ (o : Option Status). ReadTaken c.args.plan.now (skew_of c.args.self.now.sampling) c.take_read.new.self (g.R.Read.remaining c.args.capture.now) (g.R.Read.remaining c.take_read.new.capture) (g.W.Write.contents c.args.out.now) (g.W.Write.contents c.take_read.new.out) (Ok o)) c.in-Some.is
+    subst (λ (o : Option Status). ReadTaken c.args.plan.now (skew_of c.args.self.now.sampling) c.take_read.new.self (g.R.Read.remaining c.args.capture.now) (g.R.Read.remaining c.take_read.new.capture)
+    (g.W.Write.contents c.args.out.now) (g.W.Write.contents c.take_read.new.out) (Ok o)) c.in-Some.is
     (c.in_ok-status.ensures.taken _ _ _ c.reads.invariant.to)
 
 pub reads-preserved : goal.reads-preserved
 reads-preserved g c = record {
   some = c.in_ok-status.ensures.reads;
   to =
-      subst (λ (o : Option Status). ReadTaken c.args.plan.now (skew_of c.args.self.now.sampling) c.take_read.new.self (g.R.Read.remaining c.args.capture.now) (g.R.Read.remaining c.take_read.new.capture) (g.W.Write.contents c.args.out.now) (g.W.Write.contents c.take_read.new.out) (Ok o)) c.in_default.is
+      subst (λ (o : Option Status). ReadTaken c.args.plan.now (skew_of c.args.self.now.sampling) c.take_read.new.self (g.R.Read.remaining c.args.capture.now)
+      (g.R.Read.remaining c.take_read.new.capture) (g.W.Write.contents c.args.out.now) (g.W.Write.contents c.take_read.new.out) (Ok o)) c.in_default.is
       (c.in_ok-status.ensures.taken _ _ _ c.reads.invariant.to);
 }
 
 pub returns : goal.returns
 returns g c =
-    not_read c.args.plan.now (skew_of c.args.self.now.sampling) (g.R.Read.remaining c.args.capture.now) (g.R.Read.remaining c.reads.capture) (g.W.Write.contents c.args.out.now) (g.W.Write.contents c.reads.out) c.reads.self c.reads.invariant.to
+    not_read c.args.plan.now (skew_of c.args.self.now.sampling) (g.R.Read.remaining c.args.capture.now) (g.R.Read.remaining c.reads.capture) (g.W.Write.contents c.args.out.now)
+    (g.W.Write.contents c.reads.out) c.reads.self c.reads.invariant.to

@@ -24,7 +24,8 @@ returns-in_err-take-clause-taken g c = λ skew bytes from h.
 pub take_entry-requires : goal.take_entry-requires
 take_entry-requires g c =
     entry_formed_there c.args.plan.now c.take.new.self (c.requires.0 ++ c.args.byte ∷ []) c.in-Some.entry c.requires.1
-    (subst (λ (o : Option Entry). Took c.args.plan.now (c.requires.0 ++ c.args.byte ∷ []) c.requires.1 c.take.new.self (Ok o)) c.in-Some.is (c.in_ok-take.ensures c.requires.0 c.requires.1 c.requires.2))
+    (subst (λ (o : Option Entry). Took c.args.plan.now (c.requires.0 ++ c.args.byte ∷ []) c.requires.1 c.take.new.self (Ok o)) c.in-Some.is
+    (c.in_ok-take.ensures c.requires.0 c.requires.1 c.requires.2))
 
 pub returns-in-None-clause-reads : goal.returns-in-None-clause-reads
 returns-in-None-clause-reads g c = (
@@ -40,7 +41,8 @@ returns-in-None-clause-taken g c = λ skew bytes from h.
     (subst (λ (o : Option Entry). Took c.args.plan.now (bytes ++ c.args.byte ∷ []) h.said c.take.new.self (Ok o)) c.in-None.is (c.in_ok-take.ensures bytes h.said h.read))
 
 -- an answer of the whole
-taken : (p : Plan) (skew : Option ℕ) (now : Judging) (bytes : List ℕ) (said : List Entry) (e : Entry) (v : Version) → HasRead p now.reader bytes (e ∷ said) → now.reader.version ≡ Some v → skew_of now.sampling ≡ skew → (from to : Option (List ℕ)) (r : Result (Option Status) ProbeFault)
+taken : (p : Plan) (skew : Option ℕ) (now : Judging) (bytes : List ℕ) (said : List Entry) (e : Entry) (v : Version) → HasRead p now.reader bytes (e ∷ said) → now.reader.version ≡ Some v
+    → skew_of now.sampling ≡ skew → (from to : Option (List ℕ)) (r : Result (Option Status) ProbeFault)
     → EntryTaken p skew v said e now.known (waiting_in now.sampling) from to r → Taken p skew bytes from to now r
 taken p skew now bytes said e v read named same from to (Ok o) h = entry_taken p skew now bytes said e v read named same from to o h
 taken p skew now bytes said e v read named same from to (Err f) h = entry_fails p skew now bytes said e v read named same from to f h
@@ -74,6 +76,7 @@ returns-in-Some-clause-taken g c = λ skew bytes from h.
     (subst (λ (r : Reader). r.version ≡ Some v.0) (sym same) v.1)
     (c.take_entry.ensures.skew ∙ h.skew_is)
     from (g.W.Write.contents c.take_entry.new.out) c.take_entry.result
-    (subst (λ (x : Option ℕ). EntryTaken c.args.plan.now x v.0 h.said c.in-Some.entry c.take_entry.new.self.known (waiting_in c.take_entry.new.self.sampling) from (g.W.Write.contents c.take_entry.new.out) c.take_entry.result) h.skew_is
+    (subst (λ (x : Option ℕ). EntryTaken c.args.plan.now x v.0 h.said c.in-Some.entry c.take_entry.new.self.known (waiting_in c.take_entry.new.self.sampling) from
+    (g.W.Write.contents c.take_entry.new.out) c.take_entry.result) h.skew_is
     (c.take_entry.ensures.taken v.0 all h.said from v.1 read
     (subst (λ (x : Option ℕ). Stands c.args.plan.now x v.0 h.said c.args.self.now.known (waiting_in c.args.self.now.sampling) from (g.W.Write.contents c.args.out.now)) (sym h.skew_is) stands)))

@@ -10,7 +10,8 @@ use Rattle.vme_probe.proofs.probes.Judging.take_change.Goals as goal
 
 pub returns-in_default-clause-taken : goal.returns-in_default-clause-taken
 returns-in_default-clause-taken g c = λ version bytes said from named read s.
-    absurd (change_known c.args.plan.now (skew_of c.args.self.now.sampling) version c.args.self.now.reader bytes said c.args.change.now c.args.self.now.known (waiting_in c.args.self.now.sampling) s.text read named s.judged c.in_default.is)
+    absurd (change_known c.args.plan.now (skew_of c.args.self.now.sampling) version c.args.self.now.reader bytes said c.args.change.now c.args.self.now.known
+    (waiting_in c.args.self.now.sampling) s.text read named s.judged c.in_default.is)
 
 -- a change at the moment that the reader has
 seen : (m n : ℕ) (c : Change) → m ≡ n → (let a : SeenChange = record { moment = m; change = c } in let b : SeenChange = record { moment = n; change = c } in a ≡ b)

@@ -9,14 +9,16 @@ use Rattle.vme_probe.proofs.probes.Judging.take_moment.Goals as goal
 
 pub returns-in-Some-clause-taken : goal.returns-in-Some-clause-taken
 returns-in-Some-clause-taken g c = λ moment version bytes said from named read s.
-    moment_later c.args.plan.now (skew_of c.args.self.now.sampling) version said moment c.in-Some.field-0 c.args.self.now.known (waiting_in c.args.self.now.sampling) from (g.W.Write.contents c.args.out.now) c.in-Some.is s
+    moment_later c.args.plan.now (skew_of c.args.self.now.sampling) version said moment c.in-Some.field-0 c.args.self.now.known (waiting_in c.args.self.now.sampling) from
+    (g.W.Write.contents c.args.out.now) c.in-Some.is s
 
 pub returns-in_ok-end_head-in-None-clause-taken : goal.returns-in_ok-end_head-in-None-clause-taken
 returns-in_ok-end_head-in-None-clause-taken g c = λ moment version bytes said from named read s.
     let skew = skew_of c.args.self.now.sampling in
     let waits = waiting_in c.end_head.new.self.sampling in
     head_ended c.args.plan.now skew version said moment waits from (g.W.Write.contents c.args.out.now) (g.W.Write.contents c.end_head.new.out)
-    (stands_on c.args.plan.now skew version said c.args.self.now.known c.args.self.now.sampling c.end_head.new.self.sampling from (g.W.Write.contents c.args.out.now) c.in-None.is c.in_ok-end_head-in-None.ensures.sampling s)
+    (stands_on c.args.plan.now skew version said c.args.self.now.known c.args.self.now.sampling c.end_head.new.self.sampling from
+    (g.W.Write.contents c.args.out.now) c.in-None.is c.in_ok-end_head-in-None.ensures.sampling s)
     c.end_head.new.self.known _ (c.in_ok-end_head-in-None.ensures.ended version bytes (entry.Moment moment ∷ said) named read)
 
 pub returns-in_err-end_head-in-None-clause-taken : goal.returns-in_err-end_head-in-None-clause-taken
@@ -26,5 +28,6 @@ returns-in_err-end_head-in-None-clause-taken g c = λ moment version bytes said 
     let waits = waiting_in c.end_head.new.self.sampling in
     rw (e.1, e.2)
     (head_fails c.args.plan.now skew version said moment waits from (g.W.Write.contents c.args.out.now) (g.W.Write.contents c.end_head.new.out)
-    (stands_on c.args.plan.now skew version said c.args.self.now.known c.args.self.now.sampling c.end_head.new.self.sampling from (g.W.Write.contents c.args.out.now) c.in-None.is c.in_err-end_head-in-None.ensures.sampling s)
+    (stands_on c.args.plan.now skew version said c.args.self.now.known c.args.self.now.sampling c.end_head.new.self.sampling from
+    (g.W.Write.contents c.args.out.now) c.in-None.is c.in_err-end_head-in-None.ensures.sampling s)
     c.end_head.new.self.known _ (c.in_err-end_head-in-None.ensures.ended version bytes (entry.Moment moment ∷ said) named read))

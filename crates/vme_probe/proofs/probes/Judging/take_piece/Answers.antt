@@ -25,7 +25,8 @@ returns-in_err-status-clause-taken g c = λ skew bytes from h.
     let piece = c.args.piece.now in
     let front = bytes ++ take at piece in
     rw (e.1, e.2)
-    (subst (λ (l : List ℕ). Taken c.args.plan.now skew l from (g.W.Write.contents c.take_byte.new.out) c.take_byte.new.self (Err c.in_err-status.field-0.0)) (whole_piece bytes piece at c.loop-at-test.true)
+    (subst (λ (l : List ℕ). Taken c.args.plan.now skew l from (g.W.Write.contents c.take_byte.new.out) c.take_byte.new.self (Err c.in_err-status.field-0.0))
+    (whole_piece bytes piece at c.loop-at-test.true)
     (fault_on c.args.plan.now skew (front ++ get_or piece at 0 ∷ []) (drop (at + 1) piece) from (g.W.Write.contents c.take_byte.new.out) c.take_byte.new.self c.in_err-status.field-0.0
     (c.in_err-status.ensures.taken skew front from (c.loop-at.invariant.at skew bytes from h))))
 
@@ -34,7 +35,8 @@ returns-in-Some-clause-taken g c = λ skew bytes from h.
     let at = c.loop-at.at in
     let piece = c.args.piece.now in
     let front = bytes ++ take at piece in
-    subst (λ (l : List ℕ). Taken c.args.plan.now skew l from (g.W.Write.contents c.take_byte.new.out) c.take_byte.new.self (Ok (Some c.in-Some.status))) (whole_piece bytes piece at c.loop-at-test.true)
+    subst (λ (l : List ℕ). Taken c.args.plan.now skew l from (g.W.Write.contents c.take_byte.new.out) c.take_byte.new.self (Ok (Some c.in-Some.status)))
+    (whole_piece bytes piece at c.loop-at-test.true)
     (status_on c.args.plan.now skew (front ++ get_or piece at 0 ∷ []) (drop (at + 1) piece) from (g.W.Write.contents c.take_byte.new.out) c.take_byte.new.self c.in-Some.status
     (subst (λ (o : Option Status). Taken c.args.plan.now skew (front ++ get_or piece at 0 ∷ []) from (g.W.Write.contents c.take_byte.new.out) c.take_byte.new.self (Ok o)) c.in-Some.is
     (c.in_ok-status.ensures.taken skew front from (c.loop-at.invariant.at skew bytes from h))))

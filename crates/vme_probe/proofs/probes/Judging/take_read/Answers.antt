@@ -11,7 +11,8 @@ pub returns-in-Err-clause-taken : goal.returns-in-Err-clause-taken
 returns-in-Err-clause-taken g c = λ skew from out_from h.
     rw (c.in-Err.ensures.fault)
     (not_read c.args.plan.now skew from (g.R.Read.remaining c.read_piece.new.input) out_from (g.W.Write.contents c.args.out.now) c.args.self.now
-    (reads_kept c.args.plan.now skew c.args.self.now from (g.R.Read.remaining c.args.capture.now) (g.R.Read.remaining c.read_piece.new.input) out_from (g.W.Write.contents c.args.out.now) h c.in-Err.ensures.err))
+    (reads_kept c.args.plan.now skew c.args.self.now from (g.R.Read.remaining c.args.capture.now) (g.R.Read.remaining c.read_piece.new.input) out_from
+    (g.W.Write.contents c.args.out.now) h c.in-Err.ensures.err))
 
 nothing_taken : (from mid to : Option (List ℕ)) (bytes buffer : List ℕ) (n : ℕ) → n ≡ 0 → Consumes from mid bytes → Consumes mid to (take n buffer) → Consumes from to bytes
 nothing_taken from mid to bytes buffer n none first more =
@@ -23,13 +24,15 @@ returns-in_err-finish-clause-taken g c = λ skew from out_from h.
     let e = err_from_is_err_and c.from_residual.result c.from_residual.ensures.1 in
     rw (e.1, e.2)
     (ended c.args.plan.now skew from (g.R.Read.remaining c.read_piece.new.input) out_from (g.W.Write.contents c.finish.new.out) h.bytes
-    (nothing_taken from (g.R.Read.remaining c.args.capture.now) (g.R.Read.remaining c.read_piece.new.input) h.bytes c.read_piece.new.buffer c.in-Ok.count c.if-count-eq0.true h.consumed c.in-Ok.ensures.ok.1)
+    (nothing_taken from (g.R.Read.remaining c.args.capture.now)
+    (g.R.Read.remaining c.read_piece.new.input) h.bytes c.read_piece.new.buffer c.in-Ok.count c.if-count-eq0.true h.consumed c.in-Ok.ensures.ok.1)
     (c.in-Ok.ensures.ok.2 c.if-count-eq0.true) (Err c.in_err-finish.field-0.0) (c.in_err-finish.ensures.taken skew h.bytes out_from h.at))
 
 pub returns-then-count-eq0-clause-taken : goal.returns-then-count-eq0-clause-taken
 returns-then-count-eq0-clause-taken g c = λ skew from out_from h.
     ended c.args.plan.now skew from (g.R.Read.remaining c.read_piece.new.input) out_from (g.W.Write.contents c.finish.new.out) h.bytes
-    (nothing_taken from (g.R.Read.remaining c.args.capture.now) (g.R.Read.remaining c.read_piece.new.input) h.bytes c.read_piece.new.buffer c.in-Ok.count c.if-count-eq0.true h.consumed c.in-Ok.ensures.ok.1)
+    (nothing_taken from (g.R.Read.remaining c.args.capture.now)
+    (g.R.Read.remaining c.read_piece.new.input) h.bytes c.read_piece.new.buffer c.in-Ok.count c.if-count-eq0.true h.consumed c.in-Ok.ensures.ok.1)
     (c.in-Ok.ensures.ok.2 c.if-count-eq0.true) (Ok c.in_ok-finish.field-0) (c.in_ok-finish.ensures.taken skew h.bytes out_from h.at)
 
 pub returns-in_err-status-clause-taken : goal.returns-in_err-status-clause-taken

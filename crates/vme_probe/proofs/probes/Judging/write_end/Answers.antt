@@ -17,7 +17,8 @@ returns-in_err-status-clause-written g c = λ skew version bytes said from named
     let e = err_from_is_err_and c.from_residual.result c.from_residual.ensures.1 in
     let stands = subst (λ (k : Option Known). Stands c.args.plan.now skew version said k (waiting_in c.args.self.now.sampling) from (g.W.Write.contents c.args.out.now)) c.in-Some.is s in
     rw (e.1, e.2)
-    (last_cut c.args.plan.now skew version said from (g.W.Write.contents c.args.out.now) c.in-Some.known (waiting_in c.args.self.now.sampling) stands c.judge_last.new.known (g.W.Write.contents c.judge_last.new.out) c.in_err-status.field-0.0 c.in_err-status.ensures)
+    (last_cut c.args.plan.now skew version said from (g.W.Write.contents c.args.out.now) c.in-Some.known (waiting_in c.args.self.now.sampling) stands c.judge_last.new.known
+    (g.W.Write.contents c.judge_last.new.out) c.in_err-status.field-0.0 c.in_err-status.ensures)
 
 -- the sample that waits is impossible
 pub returns-in-Some-2-clause-written : goal.returns-in-Some-2-clause-written
@@ -25,13 +26,15 @@ returns-in-Some-2-clause-written g c = λ skew version bytes said from named rea
     let waits = waiting_in c.args.self.now.sampling in
     let stands = subst (λ (k : Option Known). Stands c.args.plan.now skew version said k waits from (g.W.Write.contents c.args.out.now)) c.in-Some.is s in
     last_stopped c.args.plan.now skew version said from (g.W.Write.contents c.args.out.now) c.in-Some.known waits stands c.judge_last.new.known (g.W.Write.contents c.judge_last.new.out) _
-    (subst (λ (o : Option Status). SampleTaken c.args.plan.now waits c.in-Some.known c.judge_last.new.known (g.W.Write.contents c.args.out.now) (g.W.Write.contents c.judge_last.new.out) (Ok o)) c.in-Some-2.is c.in_ok-status.ensures)
+    (subst (λ (o : Option Status). SampleTaken c.args.plan.now waits c.in-Some.known c.judge_last.new.known (g.W.Write.contents c.args.out.now) (g.W.Write.contents c.judge_last.new.out)
+    (Ok o)) c.in-Some-2.is c.in_ok-status.ensures)
 
 pub returns-clause-written : goal.returns-clause-written
 returns-clause-written g c = λ skew version bytes said from named read s.
     let waits = waiting_in c.args.self.now.sampling in
     let near = g.W.Write.contents c.judge_last.new.out in
     let stands = subst (λ (k : Option Known). Stands c.args.plan.now skew version said k waits from (g.W.Write.contents c.args.out.now)) c.in-Some.is s in
-    let t = subst (λ (o : Option Status). SampleTaken c.args.plan.now waits c.in-Some.known c.judge_last.new.known (g.W.Write.contents c.args.out.now) near (Ok o)) c.in_default-2.is c.in_ok-status.ensures in
+    let t = subst (λ (o : Option Status). SampleTaken c.args.plan.now waits c.in-Some.known c.judge_last.new.known (g.W.Write.contents c.args.out.now) near
+    (Ok o)) c.in_default-2.is c.in_ok-status.ensures in
     end_written c.args.plan.now skew version said from (g.W.Write.contents c.args.out.now) (Some c.in-Some.known) waits stands c.in-Some.known c.judge_last.new.known refl t.0 t.1
     near (g.W.Write.contents c.finish.new.out) c.probes.result.now c.finish.result t.2 (c.probes.ensures ∙ read.keeps.probes) c.finish.ensures
