@@ -12,16 +12,20 @@ pub record Store : Type 0 where
   pub history : List Edge
   pub max : ℕ
 
+-- how many edges a page holds at most
+abbrev pub page_size : ℕ
+page_size = 65536
+
 -- how many pages are needed for max edges
 abbrev pub pages_for : ℕ → ℕ
-pages_for max = (max + 65535) / 65536
+pages_for max = (max + page_size - 1) / page_size
 
 -- room for max edges, n of which are kept: each page is full before the next one is begun
 abbrev pub ArePages : ℕ → ℕ → List Page → Type 0
 ArePages max n [] = max ≡ 0
 ArePages max n (p ∷ ps) =
-    (p.room ≡ min max 65536) × (length p.edges ≡ min n 65536)
-    × ArePages (max - 65536) (n - 65536) ps
+    (p.room ≡ min max page_size) × (length p.edges ≡ min n page_size)
+    × ArePages (max - page_size) (n - page_size) ps
 
 -- the edges in the pages, oldest first
 abbrev pub stored : List Page → List Edge

@@ -3,7 +3,7 @@ ghost use Rattle.std.specs.Prelude.{◌≡◌, ◌<◌, ◌≤◌, ◌+◌, ◌-
 ghost use Rattle.vme_arena.specs.Stretch.{rounded};
 ghost use Rattle.vme_arena.specs.Words.{rest_left};
 ghost use Rattle.vme_model.specs.Report.{trace_limit};
-ghost use Rattle.vme_store.specs.Pages.{pages_for, ArePages};
+ghost use Rattle.vme_store.specs.Pages.{page_size, pages_for, ArePages};
 ghost use Rattle.vme_store.specs.Refusals.{refusal};
 
 use crate::pages::Page;
@@ -67,7 +67,7 @@ impl<'r> Trace<'r> {
     pub fn page_max(max: u32, page: u32) -> u32
         requires limit { max ≤ trace_limit }
         requires page { page < pages_for max }
-        ensures { result ≡ min (max - 65536 * page) 65536 }
+        ensures { result ≡ min (max - page_size * page) page_size }
     {
         PAGE.min(max - PAGE * page)
     }
