@@ -4,7 +4,7 @@ A definition affects the proofs of many functions, so an edit of one has to be r
 take a check of its own, most of which is the same for every edit. So the file with the edit is copied, and with it each file of specs/
 and proofs/ through which the law rests on it, and the law, in a file of src/ of its own. Copies name copies, and nothing else names
 them: so none of these edits affects another, and nothing else in the crate is changed. An edit is made in its place, alone, if what
-has to refuse it is no law of src/laws.rt, or if it is not refused at the copy. If something else of the crate lay between, such as a
+has to refuse it is no law of a file such as src/laws.rt or src/grant_laws.rt, or if it is not refused at the copy. If something else of the crate lay between, such as a
 function or what a type promises, the copy would be refused without an edit too.
 """
 
@@ -19,14 +19,13 @@ from copies import WITH
 from edit_files import Edit
 from sources import Texts
 
-LAWS = "laws"
-PROOFS = f"proofs/{LAWS}"
+# The name of a module of laws.
+LAWS = re.compile(r"(\w+_)?laws")
 PARTS = ("specs", "proofs")
 FILE = re.compile(r"(specs|proofs)/(?!Lib\b)(\w+)\.antt")
 ROOT = "src/lib.rt"
 # A file of definitions or proofs, as its part and its name.
 Module = Tuple[str, str]
-DECLARED = re.compile(rf"^((?:pub(?:\([a-z]+\))? )?mod ){LAWS};\n", re.M)
 IMPORT = re.compile(r"ghost use ([\w.]+)\.\{(.*)\};")
 
 
@@ -35,15 +34,20 @@ class Copy:
 
     def __init__(self, crate: str, name: str, texts: Texts, law: "Law", between: list[Module]) -> None:
         self.crate, self.law, self.between, self.end = crate, law, between, f"{WITH}{name}"
-        own = {file: text for file, text in texts.items() if file.startswith(f"{PROOFS}/{law.name}/")}
         self.texts = {self.file_of(module): self.renamed(texts[file_of(module)]) for module in between}
-        self.texts.update({f"{PROOFS}{self.end}{file[len(PROOFS):]}": self.renamed(text) for file, text in own.items()})
-        self.texts[f"src/{LAWS}{self.end}.rt"] = self.renamed("\n".join(law.alone(crate, between)))
+        own = {f"proofs/{self.module}/{law.name}/{file}": text for file, text in law.proofs(texts).items()}
+        self.texts.update({file: self.renamed(text) for file, text in own.items()})
+        self.texts[f"src/{self.module}.rt"] = self.renamed("\n".join(law.alone(crate, between)))
+
+    @property
+    def module(self) -> str:
+        """The module that has the copy of the law alone."""
+        return f"{self.law.module}{self.end}"
 
     @property
     def own_path(self) -> str:
         """The end of the path of the copy of the law."""
-        return f"{LAWS}{self.end}::{self.law.name}"
+        return f"{self.module}::{self.law.name}"
 
     def file_of(self, module: Module) -> str:
         """The file of the copy of a module."""
@@ -53,7 +57,8 @@ class Copy:
         """A text in which the names of what is copied are those of the copies."""
         text = names(self.crate).sub(self.renamed_name, text)
         text = re.sub(r"\bcrate::(specs|proofs)::(\w+)", self.renamed_name, text)
-        return re.sub(rf"\bRattle\.{self.crate}\.(proofs|specs\.contracts)\.{LAWS}\.{self.law.name}\b", rf"Rattle.{self.crate}.\1.{LAWS}{self.end}.{self.law.name}", text)
+        own = rf"\bRattle\.{self.crate}\.(proofs|specs\.contracts)\.{self.law.module}\.{self.law.name}\b"
+        return re.sub(own, rf"Rattle.{self.crate}.\1.{self.module}.{self.law.name}", text)
 
     def renamed_name(self, name: re.Match) -> str:
         """The name of the copy of a module that is copied, or the name of another as it is."""
@@ -65,10 +70,15 @@ class Copy:
 
 
 class Law:
-    """A law of src/laws.rt: its name, its lines, and those above all functions of the file."""
+    """A law: its module, its name, its lines, and those above all functions of the file."""
 
-    def __init__(self, name: str, head: list[str], lines: list[str]) -> None:
-        self.name, self.head, self.lines, self.text = name, head, lines, "\n".join(lines)
+    def __init__(self, module: str, name: str, head: list[str], lines: list[str]) -> None:
+        self.module, self.name, self.head, self.lines, self.text = module, name, head, lines, "\n".join(lines)
+
+    def proofs(self, texts: Texts) -> Texts:
+        """What is written of its proof, by the file in its folder."""
+        folder = f"proofs/{self.module}/{self.name}/"
+        return {file[len(folder) :]: text for file, text in texts.items() if file.startswith(folder)}
 
     def uses(self, line: str) -> bool:
         """Whether a line that imports definitions imports one that the law names."""
@@ -96,8 +106,7 @@ def made_for(edit: Edit, texts: Texts) -> Copy | None:
     law, edited = law_of(edit, texts), modules_of(edit)
     if not law or not edited or not all(file_of(module) in texts for module in edited):
         return None
-    own = [text for file, text in texts.items() if file.startswith(f"{PROOFS}/{law.name}/")]
-    roots = named(edit.crate, "\n".join([*own, *filter(law.uses, law.head)]), texts)
+    roots = named(edit.crate, "\n".join([*law.proofs(texts).values(), *filter(law.uses, law.head)]), texts)
     between = between_of(edit.crate, texts, roots, edited)
     return Copy(edit.crate, edit.name, edit_files.replaced(texts, edit), law, between) if between else None
 
@@ -112,13 +121,18 @@ def modules_of(edit: Edit) -> set[Module]:
 def law_of(edit: Edit, texts: Texts) -> Law | None:
     """The law that has to refuse an edit, if it is one."""
     module, _, name = edit.at.rpartition("::")
-    file = f"src/{LAWS}.rt"
-    if module != LAWS or file not in texts or not DECLARED.search(texts.get(ROOT, "")):
+    file = f"src/{module}.rt"
+    if not LAWS.fullmatch(module) or file not in texts or not declared(module).search(texts.get(ROOT, "")):
         return None
     functions, lines = sources.functions(edit.crate, file, texts[file]), texts[file].split("\n")
     fronts = {function.path: sources.front_of(lines, function.first) for function in functions}
-    law = [function for function in functions if function.path.endswith(f"::{LAWS}::{name}")]
-    return Law(name, lines[: min(fronts.values())], lines[fronts[law[0].path] : law[0].end]) if len(law) == 1 else None
+    law = [function for function in functions if function.path.endswith(f"::{module}::{name}")]
+    return Law(module, name, lines[: min(fronts.values())], lines[fronts[law[0].path] : law[0].end]) if len(law) == 1 else None
+
+
+def declared(module: str) -> re.Pattern:
+    """The line of a crate's root that declares a module of laws."""
+    return re.compile(rf"^((?:pub(?:\([a-z]+\))? )?mod ){module};\n", re.M)
 
 
 def named(crate: str, text: str, texts: Texts) -> set[Module]:
@@ -149,9 +163,9 @@ def beside(texts: Texts, copies: list[Copy]) -> Texts:
     made = dict(texts)
     for part in PARTS:
         made[f"{part}/Lib.antt"] = "".join([made.get(f"{part}/Lib.antt", ""), "\n", *(copy.lines(part) for copy in copies)])
-    declared = DECLARED.search(made[ROOT])
-    lines = "".join(f"{declared[1]}{LAWS}{copy.end};\n" for copy in copies)
-    made[ROOT] = made[ROOT][: declared.end()] + lines + made[ROOT][declared.end() :]
+    for module in sorted({copy.law.module for copy in copies}):
+        own = [copy for copy in copies if copy.law.module == module]
+        made[ROOT] = declared(module).sub(lambda line: line[0] + "".join(f"{line[1]}{copy.module};\n" for copy in own), made[ROOT], count=1)
     for copy in copies:
         made.update(copy.texts)
     return made

@@ -20,5 +20,7 @@ pub mod Reached
 pub mod Walk
 -- sample by sample: `laws`
 pub mod Following
+-- the orders of two samples one behind the other: `laws`
+pub mod Joined
 -- a sample of one change
 pub mod Alone

@@ -2,7 +2,7 @@
 //!
 //! The functions do nothing. Each is a theorem, which its contract states. `start` is what is known
 //! before a sample, `g` are the edges before it and `h` those in which its changes were made.
-ghost use Rattle.std.specs.Prelude.{◌≡◌, ◌<◌, ◌++◌, ◌∷◌, ℕ, None, Option, Some, List, length};
+ghost use Rattle.std.specs.Prelude.{◌≡◌, ◌<◌, ◌≤◌, ◌+◌, ◌++◌, ◌∷◌, ℕ, None, Option, Some, List, length, map, true};
 ghost use Rattle.vme_captures.specs.Possible.{AgreeEach, sightings};
 ghost use Rattle.vme_captures.specs.declared.signals.Change.{Change};
 ghost use Rattle.vme_captures.specs.declared.signals.Pin.{Pin};
@@ -10,7 +10,8 @@ ghost use Rattle.vme_model.specs.Accepted.{IsAccepted};
 ghost use Rattle.vme_model.specs.Plan.{Plan};
 ghost use Rattle.vme_model.specs.Verdict.{IsLegal};
 ghost use Rattle.vme_model.specs.declared.signals.Edge.{Edge};
-ghost use Rattle.vme_samples.specs.Orders.{AreNamed, AreOrdersOf, CoversHidden, FollowSamples, ShowsIn, all_of};
+ghost use Rattle.vme_samples.specs.Orders.{AreNamed, AreOrdersOf, CoversHidden, FollowSamples, IsOrderOf, ShowsIn, all_of};
+ghost use Rattle.vme_samples.specs.Samples.{joins};
 ghost use Rattle.vme_samples.specs.Ways.{AreMakers, AreWays, Gathered, Known, hidden_behind};
 ghost use Rattle.vme_samples.specs.declared.samples.SeenChange.{SeenChange};
 ghost use Rattle.vme_standings.specs.Covers.{AreProbed, Covers};
@@ -69,4 +70,24 @@ pub fn samples_stay_covered()
         → Gathered p probed sample known (all_of sample) (length sample) None
         → AreOrdersOf (sample ∷ samples) changes → IsLegal probed.version p (h ++ g)
         → AgreeEach changes (sightings p pins g h) → ⊥ }
+{}
+
+/// Of two samples one behind the other, an order of the earlier and then one of the later is an
+/// order of the sample that has the changes of both. So the changes of samples are also those of
+/// samples of which two neighbours are joined. A change that belongs to the later of the two by
+/// some skew belongs to both joined by any larger one. So with a larger skew no order is missing
+/// that there is with a smaller one.
+pub fn joined_samples_have_the_orders_of_both()
+    ensures order { (earlier later : List SeenChange) (first second : List ℕ)
+        (before here : List Change)
+        → IsOrderOf earlier first before → IsOrderOf later second here
+        → IsOrderOf (earlier ++ later) (map (λ i. length earlier + i) second ++ first)
+        (here ++ before) }
+    ensures orders { (samples newer : List (List SeenChange)) (earlier later : List SeenChange)
+        (changes : List Change)
+        → AreOrdersOf (newer ++ later ∷ earlier ∷ samples) changes
+        → AreOrdersOf (newer ++ (earlier ++ later) ∷ samples) changes }
+    ensures joining { (skew larger : ℕ) (earlier later : List SeenChange) (moment : ℕ)
+        → skew ≤ larger → 0 < length later → joins skew later moment ≡ true
+        → joins larger (earlier ++ later) moment ≡ true }
 {}
