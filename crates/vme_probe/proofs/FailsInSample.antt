@@ -1,5 +1,5 @@
 -- The condition that is named behind some changes of a sample, and those above it, hold together on no bus: `condition_laws`.
-use Rattle.std.proofs.Common.{◌≡◌, ◌∙◌, ◌<◌, ◌^◌, ◌++◌, ◌∷◌, [], ℕ, Bool, true, List, Option, Some, None, length, refl, sym, ap, subst, arith, append_assoc}
+use Rattle.std.proofs.Common.{◌≡◌, ◌∙◌, ◌++◌, ◌∷◌, [], ℕ, true, List, Some, refl, sym, ap, subst, arith, append_assoc}
 use Rattle.vme_model.specs.Accepted.{IsAccepted}
 use Rattle.vme_model.specs.Plan.{Plan}
 use Rattle.vme_model.specs.Verdict.{IsLegal}
@@ -8,23 +8,23 @@ use Rattle.vme_model.specs.declared.signals.Edge.{Edge}
 use Rattle.vme_model.specs.declared.signals.Version.{Version}
 use Rattle.vme_captures.specs.declared.signals.Change.{Change}
 use Rattle.vme_captures.specs.declared.signals.Entry.{Entry}
-use Rattle.vme_captures.specs.Possible.{AgreeEach, Begins as CaptureBegins, Explains, sightings}
+use Rattle.vme_captures.specs.Possible.{AgreeEach, Explains, sightings}
 use Rattle.vme_captures.specs.Reading.{pins}
 use Rattle.vme_standings.specs.declared.standings.Probed.{Probed}
 use Rattle.vme_standings.specs.declared.standings.Standings.{Standings}
 use Rattle.vme_standings.specs.Covers.{AreProbed, Covers}
-use Rattle.vme_standings.specs.Following.{Follows}
 use Rattle.vme_standings.specs.Hidden.{HasMoved}
 use Rattle.vme_standings.specs.Moving.{moved_by}
 use Rattle.vme_standings.proofs.JoinedCaptures.{explained}
 use Rattle.vme_samples.specs.declared.places.Places.{Places}
 use Rattle.vme_samples.specs.declared.samples.SeenChange.{SeenChange}
-use Rattle.vme_samples.specs.Orders.{AreInOrder, AreOrdersOf, CoversHidden, set_of}
+use Rattle.vme_samples.specs.Orders.{AreInOrder, CoversHidden, set_of}
+use Rattle.vme_samples.specs.Places.{with}
 use Rattle.vme_samples.specs.Ways.{AreWays, Known as Ways, hidden_behind}
 use Rattle.vme_samples.proofs.Following.{Splits, legal_before, split}
 use Rattle.vme_samples.proofs.OneMore.{with_more}
 use Rattle.vme_samples.proofs.Reached.{same_known}
-use Rattle.vme_samples.proofs.Walk.{walked}
+use Rattle.vme_samples.proofs.Walk.{Walked, walked}
 use Rattle.vme_probe.specs.declared.judging.Known.{Known}
 use Rattle.vme_probe.specs.declared.obstacles.Obstacle.{Obstacle}
 use Rattle.vme_probe.specs.Conditions.{obstacle}
@@ -40,7 +40,7 @@ no_places sample [] [] ordered none = refl
 no_places sample [] (c ∷ cs) ordered none = absurd ordered
 no_places sample (i ∷ places) here ordered none =
     let more = with_more (set_of places) i in
-    let z = ap (λ (s : Places). s.bits) none in
+    let z : (with (set_of places) i).bits ≡ 0 = ap (λ (s : Places). s.bits) none in
     absurd (omega (arith, more, z))
 
 module _ (p : Plan) (ok : IsAccepted p) (v : Version) (said : List Entry) (earlier : List (List SeenChange)) where
@@ -78,7 +78,8 @@ module _ (p : Plan) (ok : IsAccepted p) (v : Version) (said : List Entry) (earli
           shows = s.before_agree;
         })
 
-        abbrev w = walked p ok (pins said) old.probed sample old.standings ways are_ways probes (s.earlier ++ g) so_far s.later
+        w : Walked p ok (pins said) old.probed sample old.standings ways are_ways x.places (s.later ++ (s.earlier ++ g)) (sightings p (pins said) (s.earlier ++ g) s.later)
+        w = walked p ok (pins said) old.probed sample old.standings ways are_ways probes (s.earlier ++ g) so_far s.later
             (subst (λ y. IsLegal y p (s.later ++ (s.earlier ++ g))) version whole) x.places x.here x.ordered s.here_agree
 
     pub set_covers : (sample : List SeenChange) (last : Standings) → IsKnownBehindSet p old sample set last

@@ -1,8 +1,6 @@
 -- Each condition in the text of a sample that is impossible is one that holds on no bus: `condition_laws`.
-use Rattle.std.proofs.Common.{◌≡◌, ◌⊎◌, ◌∙◌, ◌<◌, ◌++◌, ◌∷◌, [], ℕ, Bool, true, false, not, List, Option, Some, None, Ok, length, reverse, refl, sym, ap, subst, inl, inr, append-nil}
+use Rattle.std.proofs.Common.{◌≡◌, ◌⊎◌, ◌∙◌, ◌++◌, ◌∷◌, [], ℕ, Bool, true, false, not, List, Some, Ok, length, reverse, refl, sym, ap, subst, inl, inr, append-nil}
 use Rattle.std.specs.Prelude.{◌&&◌}
-use Rattle.std.specs.List.{slice_get}
-use Rattle.vme_model.specs.declared.signals.Driver.{Driver}
 use Rattle.vme_model.specs.declared.signals.Version.{Version}
 use Rattle.vme_model.specs.Accepted.{IsAccepted}
 use Rattle.vme_model.specs.Plan.{Plan}
@@ -15,25 +13,20 @@ use Rattle.vme_standings.specs.declared.standings.Drivers.{Drivers}
 use Rattle.vme_standings.specs.declared.standings.Probed.{Probed}
 use Rattle.vme_standings.specs.declared.standings.Standings.{Standings}
 use Rattle.vme_standings.specs.Covers.{AreProbed}
-use Rattle.vme_standings.specs.Moving.{moved_by}
 use Rattle.vme_samples.specs.declared.makers.Makers.{Makers}
 use Rattle.vme_samples.specs.declared.places.Places.{Places}
 use Rattle.vme_samples.specs.declared.samples.SeenChange.{SeenChange}
 use Rattle.vme_samples.specs.Makers.{by_at}
 use Rattle.vme_samples.specs.Orders.{set_of}
-use Rattle.vme_samples.specs.Places.{has_place}
 use Rattle.vme_samples.specs.Samples.{comes_next}
 use Rattle.vme_samples.proofs.OneMore.{none_in}
 use Rattle.vme_probe.specs.declared.judging.Known.{Known}
-use Rattle.vme_probe.specs.declared.obstacles.Obstacle.{Obstacle}
-use Rattle.vme_probe.specs.Conditions.{obstacle}
-use Rattle.vme_probe.specs.Holding.{EndsAtHead, has_it}
+use Rattle.vme_probe.specs.Holding.{EndsAtHead}
 use Rattle.vme_probe.specs.Knowing.{IsStoppedAtEnd, IsUnbegun, Judged, Stops, StopsAt, StopsSample}
 use Rattle.vme_probe.specs.Lines.{impossible_line}
 use Rattle.vme_probe.specs.Probing.{IsImpossibleAtEnd, Probes, StopsIn}
 use Rattle.vme_probe.specs.Sampled.{CannotSample, Refuses, RefusesFirst, placed_line, placed_lines}
-use Rattle.vme_probe.specs.SampledHolding.{IsKnownBehindSet, NeverHoldsInSample, TellsFailingInSample}
-use Rattle.vme_probe.specs.SampledNaming.{samples}
+use Rattle.vme_probe.specs.SampledHolding.{IsKnownBehindSet, TellsFailingInSample}
 use Rattle.vme_probe.specs.Stopped.{is_refused_by_ours, refused_text, stopped_text}
 use Rattle.vme_probe.proofs.FailsInSample.{named_behind_set}
 use Rattle.vme_probe.proofs.Refused.{read_first}

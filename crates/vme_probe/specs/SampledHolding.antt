@@ -2,7 +2,7 @@
 -- sample is known behind the earlier samples, and behind some changes of this one. Lists of edges,
 -- of changes and of samples have the newest first. The changes of a sample are in the order of the
 -- capture.
-use Rattle.std.specs.Prelude.{◌≡◌, ◌<◌, ◌++◌, ◌∷◌, [], ℕ, Bool, true, List, Option, Some, length, reverse}
+use Rattle.std.specs.Prelude.{◌≡◌, ◌<◌, ◌++◌, ◌∷◌, [], ℕ, Bool, true, List, Some, length, reverse}
 use Rattle.std.specs.List.{slice_get}
 use Rattle.vme_model.specs.declared.signals.Driver.{Driver}
 use Rattle.vme_model.specs.declared.signals.Edge.{Edge}

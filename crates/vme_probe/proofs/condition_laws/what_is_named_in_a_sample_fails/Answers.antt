@@ -3,8 +3,7 @@ use Rattle.vme_probe.proofs.FailsInSample.{named_in_sample}
 use Rattle.vme_probe.proofs.ToldInSample.{printed_in_sample}
 
 pub returns-clause-named_in_sample : goal.returns-clause-named_in_sample
-returns-clause-named_in_sample c p version said earlier sample set last v d o ok known has named =
-    named_in_sample p version said earlier sample set last v d o ok known has named
+returns-clause-named_in_sample c = named_in_sample
 
 pub returns-clause-printed_in_sample : goal.returns-clause-printed_in_sample
 returns-clause-printed_in_sample c = printed_in_sample
