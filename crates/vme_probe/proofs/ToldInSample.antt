@@ -75,7 +75,7 @@ module _ (p : Plan) (v : Version) (k : Known) (same : k.probed.version ≡ v) wh
       is_refused_by_ours p v stops.hidden s.change stops.owners,
       (refl, refl),
       subst (λ b. Refuses p v stops.hidden (Some s) b (refused_text p v stops.hidden s.moment s.change stops.owners) (is_refused_by_ours p v stops.hidden s.change stops.owners)) (sym (one_next s))
-      (stops.owners, stops.owners_are, refl, refl),
+          (stops.owners, stops.owners_are, refl, refl),
       refl,
       refl,
     );
