@@ -110,8 +110,8 @@ module _ (p : Plan) (ok : IsAccepted p) (v : Version) (said : List Entry) (first
       let t = taken p ok v said first.probed version probes earlier before.standings l.covers before l.probed_is refl sample some last lines takes in
       record { covers = t.covers; probed_is = t.probed_is }
 
-pub named_in_sample : (p : Plan) (version : Version) (said : List Entry) (earlier : List (List SeenChange)) (sample : List SeenChange) (set : Places) (last : Standings) (c : Change) (d : Driver) (o : Obstacle)
-    → IsAccepted p → IsKnownInSample p version said earlier sample set last
+pub named_in_sample : (p : Plan) (version : Version) (said : List Entry) (earlier : List (List SeenChange)) (sample : List SeenChange) (set : Places) (last : Standings) (c : Change)
+    (d : Driver) (o : Obstacle) → IsAccepted p → IsKnownInSample p version said earlier sample set last
     → has_it p (moved_by p c.signal) d ≡ true → obstacle p version last c d ≡ Some o → NeverHoldsInSample p version said earlier sample set last c d o
 named_in_sample p version said earlier sample set last c d o ok k has named =
     named_behind_set p ok version said earlier k.before (k.version_is ∙ ap (λ (x : Probed). x.version) same)
