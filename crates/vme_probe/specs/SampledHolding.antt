@@ -109,8 +109,8 @@ pub record TellsFailingInSample (p : Plan) (skew : ℕ) (r : Reading) (text : Li
   pub refuses : RefusesFirst p version known sample set (length sample) refused ours
   pub lines : List ℕ
   pub moment : ℕ
-  pub is : text ≡ lines ++ (placed_lines sample set makers (length sample) ++ refused)
-      ++ impossible_line moment ours
+  pub is : text ≡ lines ++ ((placed_lines sample set makers (length sample) ++ refused)
+      ++ impossible_line moment ours)
   pub fail : (i : ℕ) (s : SeenChange) (d : Driver) (o : Obstacle)
       → slice_get sample i ≡ Some s → comes_next sample set i ≡ true
       → has_it p (moved_by p s.change.signal) d ≡ true
