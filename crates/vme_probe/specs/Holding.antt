@@ -143,8 +143,8 @@ pub record IsKnown (p : Plan) (probed : Probed) (c : Capture) (last : Standings)
   pub hidden : HasMoved p probed behind last
 
 -- The condition is one of the change's for the driver. Together with those above it, it holds of
--- the driver behind no list of edges, those of g and then those of h, that shows this, and on which
--- the line or pin of the change is at the other level.
+-- the driver in no list of edges, those of g and then those of h, of which `shows` is true, and
+-- behind which the line or pin of the change is at the other level.
 pub record NeverHoldsOn
     (p : Plan) (version : Version) (shows : List Edge → List Edge → Type 0) (st : Standings)
     (v : Change) (d : Driver) (o : Obstacle)
@@ -157,7 +157,7 @@ pub record NeverHoldsOn
   pub never : (g h : List Edge) → shows g h → is_low p (h ++ g) v.signal ≡ not v.fall
       → all_hold version p (h ++ g) d v (above ++ named ∷ []) ≡ true → ⊥
 
--- so on each bus that keeps the rules and shows the capture
+-- in no list of edges that keeps the rules and shows the capture
 abbrev pub NeverHolds : Plan → Capture → Standings → Change → Driver → Obstacle → Type 0
 NeverHolds p c st v d o = NeverHoldsOn p c.version (Explains p c) st v d o
 

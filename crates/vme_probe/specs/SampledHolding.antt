@@ -81,7 +81,7 @@ pub record ShowsPart
   pub set_is : set_of places ≡ set
   pub explains : Explains p (in_order version said (here ++ before)) g h
 
--- the condition and those above it hold of the driver on no such bus
+-- together with those above it, the condition holds of the driver in no such list of edges
 abbrev pub NeverHoldsInSample :
     Plan → Version → List Entry → List (List SeenChange) → List SeenChange → Places → Standings
     → Change → Driver → Obstacle → Type 0

@@ -45,10 +45,10 @@ pub fn what_is_named_fails()
 {}
 
 /// So it is with `--skew`. What is known before a change of a sample is known behind the earlier
-/// samples, and behind a set of changes of this one. A condition that is named then, and those
-/// above it, hold of the driver in no list of edges that keeps the rules, shows the earlier
-/// samples, each in some order, and the changes of the set in some order, and behind which the line
-/// or pin is at the other level.
+/// samples, and behind a set of changes of this one. Together with the conditions above it, a
+/// condition that is named then holds of the driver in no list of edges that keeps the rules, that
+/// shows the earlier samples, each in some order, and then the changes of the set in some order,
+/// and behind which the line or pin is at the other level.
 ///
 /// So it is for each condition that is printed. If a sample is impossible, the set is that of the
 /// changes that are placed, and each condition in the lines of the others that may come next is
