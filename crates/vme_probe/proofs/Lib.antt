@@ -28,6 +28,10 @@ pub mod MetAcknowledges
 pub mod NeverHolds
 -- each condition in the text of a capture that is impossible: `condition_laws`
 pub mod ToldFailing
+-- the condition that is named behind some changes of a sample holds on no bus: `condition_laws`
+pub mod FailsInSample
+-- each condition in the text of a sample that is impossible: `condition_laws`
+pub mod ToldInSample
 -- which phases the conditions on the grants leave: `hindered_laws`
 pub mod PhaseLemmas
 -- what stands in the way of BBSY*, BCLR* and the bus grants: `hindered_laws`

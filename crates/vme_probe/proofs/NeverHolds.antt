@@ -24,7 +24,7 @@ use Rattle.vme_captures.specs.declared.signals.Signal.{Signal}
 use Rattle.vme_captures.specs.declared.signals.Signal.TheVariants as signal
 use Rattle.vme_captures.specs.declared.signals.Value.{Value}
 use Rattle.vme_captures.specs.Changes.{is_low}
-use Rattle.vme_captures.specs.Possible.{Capture}
+use Rattle.vme_captures.specs.Possible.{Capture, Explains}
 use Rattle.vme_captures.specs.Signals.{is_same_segment}
 use Rattle.vme_captures.specs.Wires.{wire_of}
 use Rattle.vme_standings.specs.declared.moving.Moved.{Moved}
@@ -40,7 +40,7 @@ use Rattle.vme_standings.proofs.Tests.{never}
 use Rattle.vme_probe.specs.declared.obstacles.Obstacle.{Obstacle}
 use Rattle.vme_probe.specs.Conditions.{acknowledge_moves, grant_moves, moves, obstacle}
 use Rattle.vme_probe.specs.Demands.{is_left}
-use Rattle.vme_probe.specs.Holding.{IsKnown, NeverHolds, has_it, holds}
+use Rattle.vme_probe.specs.Holding.{IsKnown, NeverHolds, NeverHoldsOn, has_it, holds}
 use Rattle.vme_probe.proofs.LeftBy.{Tells, first_is, never_first}
 use Rattle.vme_probe.proofs.MetGrants.{busies_fall, busies_rise, clear_fall, clear_rise}
 use Rattle.vme_probe.proofs.MetStrobes.{addresses_fall, addresses_rise, answers_rise, error_rise, strobes_fall, strobes_rise}
@@ -56,10 +56,11 @@ AllTold p version pins st x fall value d =
     (ok : IsAccepted p) (h : List Edge) (legal : IsLegal version p h) (covers : Covers p pins h st) → is_low p h x ≡ not fall
     → Tells p ok version pins h legal st covers (holds version p h d (moved_by p x) fall value) (driver_number d) (moves p version st (driver_number d) (moved_by p x) fall value)
 
-never_holds : (p : Plan) (probed : Probed) (c : Capture) (st : Standings) (v : Change) (d : Driver) (o : Obstacle) → IsAccepted p → IsKnown p probed c st
-    → AllTold p c.version c.pins st v.signal v.fall v.value d → obstacle p c.version st v d ≡ Some o → NeverHolds p c st v d o
-never_holds p probed c st v d o ok known told named =
-    let f = first_is (is_left p st (driver_number d)) [] (moves p c.version st (driver_number d) (moved_by p v.signal) v.fall v.value) o named in
+never_holds : (p : Plan) (version : Version) (pins : List Pin) (shows : List Edge → List Edge → Type 0) (st : Standings) (v : Change) (d : Driver) (o : Obstacle) → IsAccepted p
+    → ((g h : List Edge) → shows g h → IsLegal version p (h ++ g)) → ((g h : List Edge) → shows g h → Covers p pins (h ++ g) st)
+    → AllTold p version pins st v.signal v.fall v.value d → obstacle p version st v d ≡ Some o → NeverHoldsOn p version shows st v d o
+never_holds p version pins shows st v d o ok legal covered told named =
+    let f = first_is (is_left p st (driver_number d)) [] (moves p version st (driver_number d) (moved_by p v.signal) v.fall v.value) o named in
     record {
       above = f.above;
       named = f.named;
@@ -67,9 +68,9 @@ never_holds p probed c st v d o ok known told named =
       are = f.are;
       is = f.is;
       never = λ g h x other all.
-          let covers = explained p ok probed c known.version known.probes g x.begins known.first known.starts h x.legal c.changes x.shows known.behind st known.follows known.hidden in
-          never_first p ok c.version c.pins (h ++ g) x.legal st covers (holds c.version p (h ++ g) d (moved_by p v.signal) v.fall v.value) (driver_number d)
-          (moves p c.version st (driver_number d) (moved_by p v.signal) v.fall v.value) (told ok (h ++ g) x.legal covers other) o f all;
+          let covers = covered g h x in
+          never_first p ok version pins (h ++ g) (legal g h x) st covers (holds version p (h ++ g) d (moved_by p v.signal) v.fall v.value) (driver_number d)
+          (moves p version st (driver_number d) (moved_by p v.signal) v.fall v.value) (told ok (h ++ g) (legal g h x) covers other) o f all;
     }
 
 -- ---- the lines
@@ -184,6 +185,15 @@ module _ (p : Plan) (version : Version) (pins : List Pin) (st : Standings) where
   told (signal.Line l) fall value d has = line_told p version pins st l fall value d has
   told (signal.Pin q) fall value d has = pin_told q fall value d has
 
+-- what is known covers each bus that shows this
+pub named_fails_on : (p : Plan) (version : Version) (pins : List Pin) (shows : List Edge → List Edge → Type 0) (st : Standings) (v : Change) (d : Driver) (o : Obstacle) → IsAccepted p
+    → ((g h : List Edge) → shows g h → IsLegal version p (h ++ g)) → ((g h : List Edge) → shows g h → Covers p pins (h ++ g) st)
+    → has_it p (moved_by p v.signal) d ≡ true → obstacle p version st v d ≡ Some o → NeverHoldsOn p version shows st v d o
+named_fails_on p version pins shows st v d o ok legal covered has named =
+    never_holds p version pins shows st v d o ok legal covered (told p version pins st v.signal v.fall v.value d has) named
+
 pub named_fails : (p : Plan) (probed : Probed) (c : Capture) (st : Standings) (v : Change) (d : Driver) (o : Obstacle) → IsAccepted p → IsKnown p probed c st
     → has_it p (moved_by p v.signal) d ≡ true → obstacle p c.version st v d ≡ Some o → NeverHolds p c st v d o
-named_fails p probed c st v d o ok known has named = never_holds p probed c st v d o ok known (told p c.version c.pins st v.signal v.fall v.value d has) named
+named_fails p probed c st v d o ok known has named =
+    named_fails_on p c.version c.pins (Explains p c) st v d o ok (λ g h x. x.legal)
+    (λ g h x. explained p ok probed c known.version known.probes g x.begins known.first known.starts h x.legal c.changes x.shows known.behind st known.follows known.hidden) has named

@@ -78,7 +78,7 @@ too_late p v skew said k waits text b h may = late p v skew said k waits text h 
 -- ---- what was said
 
 -- the changes that wait are the newest sample
-abbrev with_waits : List SeenChange → List (List SeenChange) → List (List SeenChange)
+abbrev pub with_waits : List SeenChange → List (List SeenChange) → List (List SeenChange)
 with_waits [] judged = judged
 with_waits (w ∷ waits) judged = (w ∷ waits) ∷ judged
 
@@ -94,16 +94,16 @@ grown skew (w ∷ waits) judged s none joined =
     ap (λ b. if b then ((w ∷ waits) ++ s ∷ []) ∷ judged else (s ∷ []) ∷ (w ∷ waits) ∷ judged) joined
 
 module _ (p : Plan) (ok : IsAccepted p) (v : Version) (skew : ℕ) where
-  record Sampled (said : List Entry) (k : Known) (waits : List SeenChange) (text : List ℕ) : Type 0 where
-    probed : Probed
-    probed_is : k.probed ≡ probed
-    version : v ≡ probed.version
-    probes : AreProbed p (pins said) probed.segments
-    judged : List (List SeenChange)
-    are : samples skew said ≡ with_waits waits judged
-    none : waits ≡ [] → judged ≡ []
-    covers : CoversOrders p ok v said probed judged k.standings
-    names : NamesSamples p v said judged text
+  pub record Sampled (said : List Entry) (k : Known) (waits : List SeenChange) (text : List ℕ) : Type 0 where
+    pub probed : Probed
+    pub probed_is : k.probed ≡ probed
+    pub version : v ≡ probed.version
+    pub probes : AreProbed p (pins said) probed.segments
+    pub judged : List (List SeenChange)
+    pub are : samples skew said ≡ with_waits waits judged
+    pub none : waits ≡ [] → judged ≡ []
+    pub covers : CoversOrders p ok v said probed judged k.standings
+    pub names : NamesSamples p v said judged text
 
   behind_head : (said : List Entry) → AllSaid p said → (waits : List SeenChange) (text : List ℕ) → Judged p v (Some skew) said None waits text → (k : Known) → Begins p v said k
       → Sampled said k waits text
@@ -186,7 +186,7 @@ module _ (p : Plan) (ok : IsAccepted p) (v : Version) (skew : ℕ) where
       by_join false e [] is = absurd (true_false (sym (ap (λ l. joins skew l a.moment) is) ∙ e))
       by_join false e (b ∷ others) is = judged_now b others is e
 
-  sampled : (said : List Entry) → AllSaid p said → (k : Known) (waits : List SeenChange) (text : List ℕ) → Judged p v (Some skew) said (Some k) waits text → Sampled said k waits text
+  pub sampled : (said : List Entry) → AllSaid p said → (k : Known) (waits : List SeenChange) (text : List ℕ) → Judged p v (Some skew) said (Some k) waits text → Sampled said k waits text
   sampled [] all k waits text h = absurd (none_some k (sym h.0))
   sampled (entry.Pin q ∷ said) all k waits text h = absurd (too_late p v (Some skew) said k waits text (not (is_running said)) h (said_stands p said (entry.Pin q) all.0))
   sampled (entry.Running ∷ said) all k waits text h = absurd (too_late p v (Some skew) said k waits text (not (is_running said)) h (said_stands p said entry.Running all.0))

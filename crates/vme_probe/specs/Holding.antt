@@ -143,18 +143,23 @@ pub record IsKnown (p : Plan) (probed : Probed) (c : Capture) (last : Standings)
   pub hidden : HasMoved p probed behind last
 
 -- The condition is one of the change's for the driver. Together with those above it, it holds of
--- the driver on no bus that keeps the rules and shows the capture, and on which the line or pin of
--- the change is at the other level.
-pub record NeverHolds
-    (p : Plan) (c : Capture) (st : Standings) (v : Change) (d : Driver) (o : Obstacle)
+-- the driver in no list of edges, those of g and then those of h, of which `shows` is true, and
+-- behind which the line or pin of the change is at the other level.
+pub record NeverHoldsOn
+    (p : Plan) (version : Version) (shows : List Edge → List Edge → Type 0) (st : Standings)
+    (v : Change) (d : Driver) (o : Obstacle)
     : Type 0 where
   pub above : List Demand
   pub named : Demand
   pub below : List Demand
-  pub are : demands p c.version st v d ≡ above ++ named ∷ below
+  pub are : demands p version st v d ≡ above ++ named ∷ below
   pub is : named.obstacle ≡ o
-  pub never : (g h : List Edge) → Explains p c g h → is_low p (h ++ g) v.signal ≡ not v.fall
-      → all_hold c.version p (h ++ g) d v (above ++ named ∷ []) ≡ true → ⊥
+  pub never : (g h : List Edge) → shows g h → is_low p (h ++ g) v.signal ≡ not v.fall
+      → all_hold version p (h ++ g) d v (above ++ named ∷ []) ≡ true → ⊥
+
+-- in no list of edges that keeps the rules and shows the capture
+abbrev pub NeverHolds : Plan → Capture → Standings → Change → Driver → Obstacle → Type 0
+NeverHolds p c st v d o = NeverHoldsOn p c.version (Explains p c) st v d o
 
 -- What was read ends at a change that is refused, and the lines of its drivers are those of what is
 -- known before it. Each condition in them is such a condition.

@@ -25,6 +25,8 @@ pub mod Demands
 pub mod Conditions
 -- believe: when a condition of a change holds of a driver on a bus
 pub mod Holding
+-- believe: the same behind some changes of a sample that is refused
+pub mod SampledHolding
 -- believe: when something is named that stands in a driver's way
 pub mod Hindered
 -- believe: what is known of BBSY* and the daisy chains fits together
