@@ -127,7 +127,7 @@ module _ (p : Plan) (ok : IsAccepted p) (probed : Probed) (said : List Entry) (k
   coming : Lists p k.probed st (next_changes st (probes_of p said)) ends.is.adds.text
   coming = lists p k.probed st (next_changes st (probes_of p said)) ends.is.adds.text ends.is.adds.coming
 
-  abbrev told : Told
+  abbrev pub told : Told
   told = record {
     st = st;
     holders = holders;
@@ -136,7 +136,7 @@ module _ (p : Plan) (ok : IsAccepted p) (probed : Probed) (said : List Entry) (k
     coming = coming.all;
   }
 
-  text_is : text ≡ last_text p told
+  pub text_is : text ≡ last_text p told
   text_is = ends.is.adds.added ∙ ap (λ l. ends.is.standing ++ l) coming.is ∙ ap (λ l. l ++ coming_text coming.all) standing_is
     where
       standing_is : ends.is.standing ≡ standing_text p st holders (places_text ends.is.stands.places_are.nowhere (waits_at p st.phases)) k.changes
@@ -182,7 +182,7 @@ module _ (p : Plan) (ok : IsAccepted p) (probed : Probed) (said : List Entry) (k
               among = by;
             }
 
-      tells : Tells p probed.version (pins said) h told
+      pub tells : Tells p probed.version (pins said) h told
       unfolding slots_text
       tells = record {
         holder = λ s on. (held s on).1;
