@@ -1,6 +1,6 @@
 -- What was said of the probed pins is how they stand behind the samples, whatever the order of each,
 -- so the last lines tell of all of these buses: `sample_laws`.
-use Rattle.std.proofs.Common.{◌≡◌, ◌∙◌, ◌<◌, ◌≤◌, ◌+◌, ◌++◌, ◌∷◌, [], ℕ, zero, suc, Bool, true, false, List, Option, Some, None, get_or, length, refl, sym, ap, subst, arith}
+use Rattle.std.proofs.Common.{◌≡◌, ◌∙◌, ◌<◌, ◌+◌, ◌++◌, ◌∷◌, [], ℕ, zero, suc, Bool, true, false, List, Option, Some, None, length, refl, sym, ap, subst, arith}
 use Rattle.std.specs.Prelude.{◌&&◌, if◌then◌else◌, option_map}
 use Rattle.std.specs.List.{slice_get}
 use Rattle.std.specs.Option.{option_map_or}
@@ -11,12 +11,10 @@ use Rattle.vme_model.specs.declared.signals.Edge.{Edge}
 use Rattle.vme_model.specs.declared.signals.Version.{Version}
 use Rattle.vme_model.specs.Accepted.{IsAccepted}
 use Rattle.vme_model.specs.Plan.{Plan}
-use Rattle.vme_model.specs.Verdict.{IsLegal}
 use Rattle.vme_captures.specs.declared.signals.Change.{Change}
 use Rattle.vme_captures.specs.declared.signals.Entry.{Entry}
 use Rattle.vme_captures.specs.declared.signals.Entry.TheVariants as entry
 use Rattle.vme_captures.specs.declared.signals.Pin.{Pin}
-use Rattle.vme_captures.specs.declared.signals.Signal.{Signal}
 use Rattle.vme_captures.specs.declared.signals.Signal.TheVariants as signal
 use Rattle.vme_captures.specs.Feeding.{probes_of}
 use Rattle.vme_captures.specs.Possible.{Explains, is_among}
@@ -38,9 +36,8 @@ use Rattle.vme_samples.proofs.Said.{said as last_said, said_same, said_up}
 use Rattle.vme_samples.proofs.Tells.{says_fall}
 use Rattle.vme_probe.specs.declared.judging.Known.{Known}
 use Rattle.vme_probe.specs.Knowing.{Ends, seen_at}
-use Rattle.vme_probe.specs.Naming.{Tells}
 use Rattle.vme_probe.specs.SampledNaming.{TellsAllSamples, in_order, samples, with_change}
-use Rattle.vme_probe.proofs.EndTells.{tells, text_is, told}
+use Rattle.vme_probe.proofs.EndTells.{TellsCovered, tells_covered}
 use Rattle.vme_probe.proofs.NextPins.{ArePinsAsSaid}
 use Rattle.vme_probe.proofs.PinLevels.{behind_changes, found_there, said_level, shown_level}
 use Rattle.vme_probe.proofs.Said.{AllSaid}
@@ -159,25 +156,36 @@ module _ (q : Pin) where
 
   -- ---- as they were said
 
+  -- a sample that is longer by one change
+  module _ (sample : List SeenChange) (a : SeenChange) (grown : List SeenChange) (is : grown ≡ sample ++ a ∷ []) (low : Bool) where
+    abbrev of_pin : Option SeenChange → Bool
+    of_pin y = option_map_or (λ s. is_same_signal s.change.signal (signal.Pin q)) y false
+
+    abbrev falls : Option SeenChange → Bool
+    falls y = option_map_or (λ s. s.change.fall) y false
+
+    abbrev before : Bool
+    before = last_said (is_of grown (signal.Pin q)) (says_fall grown) low (λ j. true) (length sample)
+
+    with_true : (b : Bool) → (b && true) ≡ b
+    with_true true = refl
+    with_true false = refl
+
+    read : (j : ℕ) → j < length sample → slice_get grown j ≡ slice_get sample j
+    read j l = ap (λ (xs : List SeenChange). slice_get xs j) is ∙ before_seam sample a j l
+
+    longer_by_one : behind_sample grown low ≡ (if is_same_signal a.change.signal (signal.Pin q) then a.change.fall else behind_sample sample low)
+    longer_by_one =
+        ap (λ n. last_said (is_of grown (signal.Pin q)) (says_fall grown) low (λ j. true) n) (ap (λ (xs : List SeenChange). length xs) is ∙ longer sample a)
+        ∙ ap (λ (y : Option SeenChange). if of_pin y && true then falls y else before) (ap (λ (xs : List SeenChange). slice_get xs (length sample)) is ∙ at_seam sample a)
+        ∙ ap (λ b. if b then a.change.fall else before) (with_true (is_same_signal a.change.signal (signal.Pin q)))
+        ∙ ap (λ b. if is_same_signal a.change.signal (signal.Pin q) then a.change.fall else b)
+        (alike (is_of grown (signal.Pin q)) (is_of sample (signal.Pin q)) (says_fall grown) (says_fall sample) low (length sample)
+        (λ j l. ap of_pin (read j l)) (λ j l. ap falls (read j l)))
+
   one_more : (sample : List SeenChange) (a : SeenChange) (low : Bool)
       → behind_sample (sample ++ a ∷ []) low ≡ (if is_same_signal a.change.signal (signal.Pin q) then a.change.fall else behind_sample sample low)
-  one_more sample a low =
-      ap (λ n. last_said (is_of grown (signal.Pin q)) (says_fall grown) low (λ j. true) n) (longer sample a)
-      ∙ ap (λ (y : Option SeenChange). if option_map_or (λ s. is_same_signal s.change.signal (signal.Pin q)) y false && true then option_map_or (λ s. s.change.fall) y false else
-          last_said (is_of grown (signal.Pin q)) (says_fall grown) low (λ j. true) (length sample)) (at_seam sample a)
-      ∙ ap (λ b. if b then a.change.fall else last_said (is_of grown (signal.Pin q)) (says_fall grown) low (λ j. true) (length sample))
-          (with_true (is_same_signal a.change.signal (signal.Pin q)))
-      ∙ ap (λ b. if is_same_signal a.change.signal (signal.Pin q) then a.change.fall else b)
-          (alike (is_of grown (signal.Pin q)) (is_of sample (signal.Pin q)) (says_fall grown) (says_fall sample) low (length sample)
-          (λ j l. ap (λ (y : Option SeenChange). option_map_or (λ s. is_same_signal s.change.signal (signal.Pin q)) y false) (before_seam sample a j l))
-          (λ j l. ap (λ (y : Option SeenChange). option_map_or (λ s. s.change.fall) y false) (before_seam sample a j l)))
-    where
-      abbrev grown : List SeenChange
-      grown = sample ++ a ∷ []
-
-      with_true : (b : Bool) → (b && true) ≡ b
-      with_true true = refl
-      with_true false = refl
+  one_more sample a low = longer_by_one sample a (sample ++ a ∷ []) refl low
 
   with_more : (skew : ℕ) (all : List (List SeenChange)) (a : SeenChange) (low : Bool)
       → behind_samples (with_change skew all a) low ≡ (if is_same_signal a.change.signal (signal.Pin q) then a.change.fall else behind_samples all low)
@@ -214,11 +222,13 @@ module _ (p : Plan) (ok : IsAccepted p) (version : Version) (skew : ℕ) (said :
   pub tells_samples : (probed : Probed) → version ≡ probed.version → (k : Known) → k.probed ≡ probed → CoversOrders p ok version said probed (samples skew said) k.standings
       → (text : List ℕ) → Ends p k (probes_of p said) text → TellsAllSamples p version said (samples skew said) text
   tells_samples probed version_is k probed_is covers text ends = record {
-    told = told p ok probed said k probed_is text ends;
-    is = text_is p ok probed said k probed_is text ends;
+    told = covered.told;
+    is = covered.is;
     tells = λ cs g h orders x.
-        subst (λ y. Tells p y (pins said) (h ++ g) (told p ok probed said k probed_is text ends)) (sym version_is)
-        (tells p ok probed said k probed_is text ends (h ++ g) (subst (λ y. IsLegal y p (h ++ g)) version_is x.legal)
+        covered.tells (h ++ g) x.legal
         (covers cs g h orders x ends.hidden (subst (λ y. HasMoved p y k.standings ends.hidden) probed_is ends.moved))
-        (pins_as_said cs g h orders x));
+        (pins_as_said cs g h orders x);
   }
+    where
+      covered : TellsCovered p version said ends.hidden text
+      covered = subst (λ y. TellsCovered p y said ends.hidden text) (sym version_is) (tells_covered p ok probed said k probed_is text ends)

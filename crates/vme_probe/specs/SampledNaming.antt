@@ -72,8 +72,8 @@ NamesSamples p version said (sample ∷ earlier) text =
     × AreAllNamed p version said sample earlier by
     × (text ≡ before ++ sample_lines sample by (length sample))
 
--- The last lines leave out none of the buses that keep the rules and show all of these samples, each
--- in some order.
+-- The last lines leave out none of the buses that keep the rules and show all of these samples,
+-- each in some order.
 pub record TellsAllSamples (p : Plan) (version : Version) (said : List Entry)
     (all : List (List SeenChange)) (last : List ℕ) : Type 0 where
   pub told : Told
