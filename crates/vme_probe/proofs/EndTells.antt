@@ -116,6 +116,12 @@ no_slot test (suc n) s none less = by_place (s == n) refl (parts (slots_below te
 
 -- ---- all of it
 
+-- the text leaves out no bus that what is known covers, if the probed pins stand as was said
+pub record TellsCovered (p : Plan) (version : Version) (said : List Entry) (st : Standings) (text : List ℕ) : Type 0 where
+  pub told : Told
+  pub is : text ≡ last_text p told
+  pub tells : (h : List Edge) → IsLegal version p h → Covers p (pins said) h st → ArePinsAsSaid p said h → Tells p version (pins said) h told
+
 module _ (p : Plan) (ok : IsAccepted p) (probed : Probed) (said : List Entry) (k : Known) (probed_is : k.probed ≡ probed) (text : List ℕ) (ends : Ends p k (probes_of p said) text) where
   abbrev st : Standings
   st = ends.hidden
@@ -200,17 +206,21 @@ module _ (p : Plan) (ok : IsAccepted p) (probed : Probed) (said : List Entry) (k
         next = next;
       }
 
+  pub tells_covered : TellsCovered p probed.version said st text
+  tells_covered = record { told = told; is = text_is; tells = tells }
+
 -- what is known behind a whole capture covers each bus that shows it
 pub tells_all : (p : Plan) (ok : IsAccepted p) (version : Version) (said : List Entry) → AllSaid p said → (k : Known) → Tied p ok version said k → (text : List ℕ) → Ends p k (probes_of p said) text
     → TellsAll p (capture_of version said) text
 tells_all p ok version said all k t text ends = record {
-  told = told p ok t.probed said k t.probed_is text ends;
-  is = text_is p ok t.probed said k t.probed_is text ends;
-  tells = λ g h x.
-      subst (λ y. Tells p y (pins said) (h ++ g) (told p ok t.probed said k t.probed_is text ends)) (sym t.version)
-      (tells p ok t.probed said k t.probed_is text ends (h ++ g) (subst (λ y. IsLegal y p (h ++ g)) t.version x.legal) (covers g h x) (pin_level p ok version said all g h x));
+  told = covered.told;
+  is = covered.is;
+  tells = λ g h x. covered.tells (h ++ g) x.legal (covers g h x) (pin_level p ok version said all g h x);
 }
   where
+    covered : TellsCovered p version said ends.hidden text
+    covered = subst (λ y. TellsCovered p y said ends.hidden text) (sym t.version) (tells_covered p ok t.probed said k t.probed_is text ends)
+
     covers : (g h : List Edge) → Explains p (capture_of version said) g h → Covers p (pins said) (h ++ g) ends.hidden
     covers g h x =
         explained p ok t.probed (capture_of version said) t.version t.probes g x.begins t.first t.starts h x.legal (changes said) x.shows

@@ -90,5 +90,8 @@ pub mod Pieces
 pub mod SampleLines
 -- whoever may have made a change of a sample is named: `sample_laws`
 pub mod SamplesTied
+-- what was said of the pins is how they stand behind samples, and what the last lines tell then:
+-- `sample_laws`
+pub mod SampleLevels
 -- what is answered with `--skew` holds of all buses: `sample_laws`
 pub mod SamplesRefused

@@ -183,7 +183,7 @@ module _ (p : Plan) (ok : IsAccepted p) (pins : List Pin) (q : Pin) (found : pin
 -- ---- what was said
 
 -- the changes stand behind what is low at the beginning
-said_level : (p : Plan) (q : Pin) (said : List Entry) → AllSaid p said → is_left_low said (signal.Pin q) ≡ behind_changes q (changes said) (is_among (lows said) (signal.Pin q))
+pub said_level : (p : Plan) (q : Pin) (said : List Entry) → AllSaid p said → is_left_low said (signal.Pin q) ≡ behind_changes q (changes said) (is_among (lows said) (signal.Pin q))
 said_level p q [] all = refl
 said_level p q (entry.Pin x ∷ said) all = said_level p q said all.1
 said_level p q (entry.Running ∷ said) all = said_level p q said all.1
@@ -202,7 +202,7 @@ said_level p q (entry.Low y ∷ said) all =
     head = is_head (is_running said) (last_moment said) (said_stands p said (entry.Low y) all.0)
 
 -- a pin that is found is one of them
-found_there : (test : Pin → Bool) (pins : List Pin) (q : Pin) → find test pins ≡ Some q → list_any (is_same_pin q) pins ≡ true
+pub found_there : (test : Pin → Bool) (pins : List Pin) (q : Pin) → find test pins ≡ Some q → list_any (is_same_pin q) pins ≡ true
 found_there test [] q is = absurd (cc)
 found_there test (x ∷ pins) q is = by_test (test x) is (found_there test pins q)
   where

@@ -27,6 +27,7 @@ use Rattle.vme_probe.specs.SampledNaming.{IsNeverShown, IsRefusedInOrders, Names
 use Rattle.vme_probe.proofs.Judged.{begun, nothing_waits}
 use Rattle.vme_probe.proofs.Refused.{read_all, read_first}
 use Rattle.vme_probe.proofs.Said.{AllSaid, said_stands}
+use Rattle.vme_probe.proofs.SampleLevels.{tells_samples}
 use Rattle.vme_probe.proofs.SamplesTied.{CoversOrders, Taken, begins_as, stopped, taken}
 use Rattle.vme_probe.proofs.Tied.{Tied, are_probed, at_head, head_says, no_changes}
 
@@ -206,21 +207,43 @@ module _ (p : Plan) (ok : IsAccepted p) (v : Version) (skew : ℕ) where
 
   -- ---- the whole capture
 
+  -- what is known behind all samples, and their lines
+  record Ended (said : List Entry) (k : Known) (text : List ℕ) : Type 0 where
+    probed : Probed
+    probed_is : k.probed ≡ probed
+    version : v ≡ probed.version
+    covers : CoversOrders p ok v said probed (samples skew said) k.standings
+    names : NamesSamples p v said (samples skew said) text
+
   -- with the sample that waits
   ended : (said : List Entry) (k : Known) (waits : List SeenChange) (lines : List ℕ) → Sampled said k waits lines → (new : Known) (text : List ℕ) → TakesSample p k waits new text
-      → NamesSamples p v said (samples skew said) (lines ++ text)
-  ended said k [] lines s new text t =
-      subst (λ js. NamesSamples p v said js (lines ++ text)) (sym s.are)
-      (subst (NamesSamples p v said s.judged) (sym (ap (λ (l : List ℕ). lines ++ l) t.1 ∙ append-nil lines)) s.names)
+      → Ended said new (lines ++ text)
+  ended said k [] lines s new text t = record {
+    probed = s.probed;
+    probed_is = ap (λ (x : Known). x.probed) t.0 ∙ s.probed_is;
+    version = s.version;
+    covers =
+        subst (λ js. CoversOrders p ok v said s.probed js new.standings) (sym s.are)
+        (subst (λ (x : Known). CoversOrders p ok v said s.probed s.judged x.standings) (sym t.0) s.covers);
+    names =
+        subst (λ js. NamesSamples p v said js (lines ++ text)) (sym s.are)
+        (subst (NamesSamples p v said s.judged) (sym (ap (λ (l : List ℕ). lines ++ l) t.1 ∙ append-nil lines)) s.names);
+  }
   ended said k (w ∷ waits) lines s new text t =
       let x = taken p ok v said s.probed s.version s.probes s.judged k.standings s.covers k s.probed_is refl (w ∷ waits) (omega arith) new text t in
-      subst (λ js. NamesSamples p v said js (lines ++ text)) (sym s.are) (lines, x.by, s.names, x.named, ap (λ l. lines ++ l) x.is)
+      record {
+        probed = s.probed;
+        probed_is = x.probed_is;
+        version = s.version;
+        covers = subst (λ js. CoversOrders p ok v said s.probed js new.standings) (sym s.are) x.covers;
+        names = subst (λ js. NamesSamples p v said js (lines ++ text)) (sym s.are) (lines, x.by, s.names, x.named, ap (λ l. lines ++ l) x.is);
+      }
 
-  all_named : (said : List Entry) → AllSaid p said → (before : Option Known) (waits : List SeenChange) (lines : List ℕ) → Judged p v (Some skew) said before waits lines → (k : Known)
+  all_ended : (said : List Entry) → AllSaid p said → (before : Option Known) (waits : List SeenChange) (lines : List ℕ) → Judged p v (Some skew) said before waits lines → (k : Known)
       → Begun p v said before k
-      → (new : Known) (text : List ℕ) → TakesSample p k waits new text → NamesSamples p v said (samples skew said) (lines ++ text)
-  all_named said all None waits lines judged k b new text t = ended said k waits lines (behind_head said all waits lines judged k b) new text t
-  all_named said all (Some j) waits lines judged k b new text t = ended said k waits lines (subst (λ x. Sampled said x waits lines) b (sampled said all j waits lines judged)) new text t
+      → (new : Known) (text : List ℕ) → TakesSample p k waits new text → Ended said new (lines ++ text)
+  all_ended said all None waits lines judged k b new text t = ended said k waits lines (behind_head said all waits lines judged k b) new text t
+  all_ended said all (Some j) waits lines judged k b new text t = ended said k waits lines (subst (λ x. Sampled said x waits lines) b (sampled said all j waits lines judged)) new text t
 
   -- a head that is refused begins no possible capture
   unbegun : (said : List Entry) → AllSaid p said → last_moment said ≡ None → CannotBegin p v said → IsNeverShown p v said (samples skew said)
@@ -280,6 +303,8 @@ module _ (p : Plan) (ok : IsAccepted p) (skew : ℕ) (bytes : List ℕ) where
   whole_named : (text : List ℕ) → IsPossibleText p (Some skew) (read_of p bytes) text → NamesAllSamples p skew (read_of p bytes) text
   whole_named text x =
       let has = x.is.has in
+      let all = read_all p bytes x.said x.are in
+      let e = all_ended p ok x.version skew x.said all has.before has.waits has.lines has.judged has.known has.begun x.is.after has.sample has.takes in
       record {
         version = x.version;
         named = x.named;
@@ -287,8 +312,9 @@ module _ (p : Plan) (ok : IsAccepted p) (skew : ℕ) (bytes : List ℕ) where
         said = x.said;
         are = x.are;
         lines = has.lines ++ has.sample;
-        names = all_named p ok x.version skew x.said (read_all p bytes x.said x.are) has.before has.waits has.lines has.judged has.known has.begun x.is.after has.sample has.takes;
+        names = e.names;
         last = x.is.last;
+        tells = tells_samples p ok x.version skew x.said all e.probed e.version x.is.after e.probed_is e.covers x.is.last x.is.ends;
         is = x.is.is ∙ ap (λ l. l ++ x.is.last) has.is;
       }
 

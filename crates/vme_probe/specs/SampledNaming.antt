@@ -19,6 +19,7 @@ use Rattle.vme_samples.specs.Orders.{AreNamed, AreOrdersOf, IsOrderOf}
 use Rattle.vme_samples.specs.Samples.{joins}
 use Rattle.vme_probe.specs.Knowing.{seen_at}
 use Rattle.vme_probe.specs.Lines.{change_line}
+use Rattle.vme_probe.specs.Naming.{Tells, Told, last_text}
 
 -- a change more belongs to the newest sample, or begins one
 abbrev pub with_change : ℕ → List (List SeenChange) → SeenChange → List (List SeenChange)
@@ -71,6 +72,16 @@ NamesSamples p version said (sample ∷ earlier) text =
     × AreAllNamed p version said sample earlier by
     × (text ≡ before ++ sample_lines sample by (length sample))
 
+-- The last lines leave out none of the buses that keep the rules and show all of these samples,
+-- each in some order.
+pub record TellsAllSamples (p : Plan) (version : Version) (said : List Entry)
+    (all : List (List SeenChange)) (last : List ℕ) : Type 0 where
+  pub told : Told
+  pub is : last ≡ last_text p told
+  pub tells : (changes : List Change) (g h : List Edge) → AreOrdersOf all changes
+      → Explains p (in_order version said changes) g h
+      → Tells p version (pins said) (h ++ g) told
+
 -- no legal list shows the changes, whatever the order of those of each sample
 abbrev pub IsNeverShown : Plan → Version → List Entry → List (List SeenChange) → Type 0
 IsNeverShown p version said all =
@@ -87,6 +98,7 @@ pub record NamesAllSamples (p : Plan) (skew : ℕ) (r : Reading) (text : List �
   pub lines : List ℕ
   pub names : NamesSamples p version said (samples skew said) lines
   pub last : List ℕ
+  pub tells : TellsAllSamples p version said (samples skew said) last
   pub is : text ≡ lines ++ last
 
 -- Of what was said first the text has the lines of the samples that were judged: all of them or all

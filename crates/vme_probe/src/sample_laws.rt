@@ -15,6 +15,10 @@ ghost use Rattle.vme_reading.specs.declared.Status.TheVariants.{Done, SomeRefuse
 /// it in some list of edges that keeps the rules and shows the samples up to and with that of the
 /// change, each in some order. If it is impossible, no such list shows the samples up to and with
 /// the one that is refused, whatever the order of each, or begins as the head says.
+///
+/// The last lines of a possible capture leave out no list of edges that keeps the rules and shows
+/// all samples, each in some order: each line of theirs has what is so behind the list, and each
+/// change that may be seen next has its line.
 pub fn no_order_of_samples_is_left_out()
     ensures possible { (p : Plan) (skew : ℕ) (bytes : List ℕ) (s : Streams) → IsAccepted p
         → Probes p (Some skew) bytes s (Ok Done)
