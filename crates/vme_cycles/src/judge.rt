@@ -107,15 +107,15 @@ impl AtEach for Tracking {
 
     ghost count = { λ now. now.following.judged };
 
-    ghost knows = { IsKnown };
+    ghost knows = { λ _. IsKnown };
 
-    ghost lines = { AreLines };
+    ghost lines = { λ _. AreLines };
 
-    ghost text = { IsText };
+    ghost text = { λ _. IsText };
 
     ghost fails = { λ _. ⊥ };
 
-    ghost told = { λ p v es bytes now knows. knows.1 };
+    ghost told = { λ _ p v es bytes now knows. knows.1 };
 
     fn begin(_task: &(), bus: Bus) -> Tracking {
         Tracking::new(bus)

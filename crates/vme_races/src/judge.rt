@@ -51,15 +51,15 @@ impl AtEach for Reporting {
 
     ghost count = { λ now. now.judged };
 
-    ghost knows = { IsKnown };
+    ghost knows = { λ _. IsKnown };
 
-    ghost lines = { λ p v. AreLines p (Some v) };
+    ghost lines = { λ _ p v. AreLines p (Some v) };
 
-    ghost text = { λ p v. IsText p (Some v) };
+    ghost text = { λ _ p v. IsText p (Some v) };
 
     ghost fails = { λ fault. fault ≡ Memory };
 
-    ghost told = { λ p v es bytes now known. (known.0, known.1.walked, known.3) };
+    ghost told = { λ _ p v es bytes now known. (known.0, known.1.walked, known.3) };
 
     fn begin(task: &Global, bus: Bus) -> Reporting {
         Reporting {

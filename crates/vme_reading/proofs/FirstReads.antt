@@ -1,24 +1,21 @@
 -- Up to the header line of a trace that stands alone, and up to a plan.
 use Rattle.std.proofs.Common.{◌≡◌, ◌≢◌, inl, inr, ℕ, List, [], ◌++◌, length, Bool, true, Option, None, unwrap_or, Result, Ok, Err, refl, sym, ◌∙◌, subst}
-use Rattle.std.proofs.KnownBytes.{Appends-nil}
 use Rattle.vme_model.specs.declared.signals.Version.{Version}
 use Rattle.vme_model.specs.declared.signals.Edge.{Edge}
 use Rattle.vme_model.specs.Plan.{Plan}
-use Rattle.vme_model.specs.Text.{Reading, read_of}
+use Rattle.vme_model.specs.Text.{read_of}
 use Rattle.vme_trace.specs.declared.Fault.{Fault}
 use Rattle.vme_trace.specs.declared.Fault.TheVariants.{Header, Line, TooLong, CutOff, Read, Memory, Failed, Write}
 use Rattle.vme_trace.specs.Reading as trace
 use Rattle.vme_reading.specs.declared.EngineFault.{EngineFault}
 use Rattle.vme_reading.specs.declared.EngineFault.TheVariants as fault
-use Rattle.vme_reading.specs.Streams.{Streams, streams, Wrote, WroteNothing}
-use Rattle.vme_reading.specs.declared.LineForm.{LineForm}
-use Rattle.vme_reading.specs.Outcomes.{Answer, Lent, LentAsking, lines_of, report_of, HasFault, ReplayStops, Replays}
+use Rattle.vme_reading.specs.Streams.{Streams, streams}
+use Rattle.vme_reading.specs.Outcomes.{Answer, Lent, LentAsking, HasFault}
 use Rattle.vme_reading.specs.Steps.{IsNoPlan, IsCounted, ReadFails, Comes, Opens}
 use Rattle.vme_reading.specs.Waiting.{StopsWaiting}
 use Rattle.vme_reading.specs.Begun.{IsUnread, IsUnbegun}
 use Rattle.vme_reading.proofs.TraceSoFar.{unknown_version}
 use Rattle.vme_reading.proofs.TraceReads.{no_such, whole_input}
-use Rattle.vme_reading.proofs.WrittenLines.{appends_behind}
 
 -- ---- a plan
 
@@ -81,28 +78,3 @@ module _ (from to : Option (List ℕ)) (reader : trace.ReaderState) (es : List E
           (subst (λ (w : Option Version). trace.HasFaultAfter (read_of (h.0.0 ++ unwrap_or to [])) w es f) unknown stopped)
     ],
   )
-
--- without a version, nothing is written
-report_unknown : (form : LineForm) (p : Plan) (r : Reading) (w : Option Version) → w ≡ None → report_of form p w r ≡ []
-report_unknown form p r w e = rw e refl
-
-lines_unknown : (form : LineForm) (p : Plan) (es : List Edge) (w : Option Version) → w ≡ None → lines_of form p w es ≡ []
-lines_unknown form p es w e = rw e refl
-
-module _ (form : LineForm) (p : Plan) (all : List ℕ) (s : Streams) (kept : WroteNothing s) where
-  nothing : Wrote s []
-  nothing = appends_behind s.old s.new s.new [] kept (Appends-nil s.new)
-
-  stops_unknown : (f : Fault) → StopsWaiting IsUnread all (streams s.from s.to None None) f → ReplayStops form p [] all s f
-  stops_unknown Header h = (h.0, rw (report_unknown form p (read_of all) (read_of all).version h.1.0) nothing)
-  stops_unknown (Line n) h = (h.0, rw (report_unknown form p (read_of all) (read_of all).version h.1.0) nothing)
-  stops_unknown (TooLong n) h = (h.0, rw (report_unknown form p (read_of all) (read_of all).version h.1.0) nothing)
-  stops_unknown CutOff h = (h.0, rw (report_unknown form p (read_of all) (read_of all).version h.1.0) nothing)
-  stops_unknown Read h = (h.0, h.1, h.2, rw (lines_unknown form p (read_of h.0).edges (read_of h.0).version h.3.0) nothing)
-  stops_unknown Memory h = (h.0, h.1, h.2, rw (lines_unknown form p h.0 (read_of all).version h.3.0) nothing)
-  stops_unknown Failed h = absurd h
-  stops_unknown Write h = absurd h
-
-pub replay_unbegun : (form : LineForm) (p : Plan) (all : List ℕ) (s : Streams) (f : Fault) → WroteNothing s → StopsWaiting IsUnread all (streams s.from s.to None None) f
-    → Replays form p [] all s (Err (fault.Trace f))
-replay_unbegun form p all s f kept h = stops_unknown form p all s kept f h

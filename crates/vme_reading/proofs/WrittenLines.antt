@@ -1,19 +1,17 @@
 -- Lines that are written one after the other.
-use Rattle.std.proofs.Common.{◌≡◌, ℕ, ◌+◌, List, [], ◌∷◌, ◌++◌, length, ◌-◌, Bool, false, Option, Some, None, Result, Ok, Err, OnErr, refl, sym, ◌∙◌, ap, append_assoc, append-nil, arith}
+use Rattle.std.proofs.Common.{◌≡◌, ℕ, ◌+◌, List, [], ◌∷◌, ◌++◌, length, Option, Some, None, Result, Ok, Err, OnErr, refl, sym, ◌∙◌, ap, append_assoc, append-nil, arith}
 use Rattle.std.specs.Io.KnownBytes.{Appends, Keeps}
 use Rattle.std.proofs.KnownBytes.{Appends-trans, Appends-nil, Appends-kept}
 use Rattle.vme_model.specs.declared.signals.Edge.{Edge}
 use Rattle.vme_model.specs.Verdict.{State, after, kept}
 use Rattle.vme_model.specs.Deliveries.{answer}
-use Rattle.vme_model.specs.Report.{verdict_line, verdict_lines, closing_text}
+use Rattle.vme_model.specs.Report.{verdict_line, verdict_lines}
 use Rattle.vme_model.specs.Why.{edge_verdict}
-use Rattle.vme_trace.specs.declared.Fault.{Fault}
 use Rattle.vme_model.specs.Text.{edge_lines, spelling}
 use Rattle.vme_trace.specs.Writing.{AppendsFront, edge_line}
 use Rattle.vme_reading.specs.declared.LineForm.{LineForm}
 use Rattle.vme_reading.specs.declared.LineForm.TheVariants.{Short, Full}
 use Rattle.vme_reading.specs.Outcomes.{form_lines, full_lines}
-use Rattle.vme_reading.specs.Steps.{piece_text}
 use Rattle.vme_reading.specs.Texts.{HandsOn}
 
 -- all is a front of itself
@@ -115,15 +113,3 @@ lines_put a b whole held lines done rest next run is put = (
   run.1 ∙ ap (λ l. run.0 ++ (held ++ l)) is ∙ ap (λ l. run.0 ++ l) (sym (append_assoc held done rest)) ∙ ap (λ l. run.0 ++ (l ++ rest)) (sym put),
   run.2,
 )
-
--- the lines of the last piece, and a front of the closing line
-pub closing_front : (form : LineForm) (a b c : Option (List ℕ)) (first now : State) (judged : ℕ) (es : List Edge) (more : Result Bool Fault) (accepted refused : ℕ) → more ≡ Ok false
-    → now ≡ kept first es → accepted ≡ length now.history → refused ≡ judged + length es - accepted → Appends a b (form_lines form first (judged + 1) es)
-    → AppendsFront b c (closing_text accepted refused) → AppendsFront a c (piece_text form first judged es more)
-closing_front form a b c first now judged es more accepted refused ends state all left w f =
-    let count : accepted ≡ length (kept first es).history = all ∙ ap (λ s. length s.history) state in
-    let text : closing_text accepted refused ≡ closing_text (length (kept first es).history) (judged + length es - length (kept first es).history) =
-    ap (λ n. closing_text n refused) count ∙ ap (closing_text (length (kept first es).history)) (left ∙ ap (λ n. judged + length es - n) count) in
-    let whole : piece_text form first judged es more ≡ form_lines form first (judged + 1) es ++ closing_text accepted refused =
-    ap (piece_text form first judged es) ends ∙ ap (λ l. form_lines form first (judged + 1) es ++ l) (sym text) in
-    rw whole (front_behind a b c (form_lines form first (judged + 1) es) (closing_text accepted refused) w f)

@@ -1,22 +1,18 @@
 -- The words of the contracts between an engine's functions.
-use Rattle.std.specs.Prelude.{◌≡◌, ◌≢◌, ◌<◌, ◌≤◌, ◌⊎◌, ◌+◌, ◌-◌, ◌*◌, ◌^◌, ◌++◌, [], ℕ, Bool, true, false, List, length, Option, Some, None, unwrap_or, Result, Ok, Err}
-use Rattle.std.specs.Io.KnownBytes.{Appends, Consumes, IsAtEnd}
+use Rattle.std.specs.Prelude.{◌≡◌, ◌≢◌, ◌<◌, ◌≤◌, ◌⊎◌, ◌+◌, ◌*◌, ◌^◌, ◌++◌, [], ℕ, Bool, true, false, List, length, Option, Some, None, unwrap_or, Result, Ok, Err}
+use Rattle.std.specs.Io.KnownBytes.{Consumes, IsAtEnd}
 use Rattle.vme_model.specs.declared.signals.Version.{Version}
 use Rattle.vme_model.specs.declared.signals.Edge.{Edge}
-use Rattle.vme_model.specs.Verdict.{State, kept}
 use Rattle.vme_model.specs.Text.{Reading, read_of}
-use Rattle.vme_model.specs.Report.{closing_text}
 use Rattle.vme_scenario.specs.Format.{scenario}
 use Rattle.vme_scenario.specs.Errors.{IsErrorOf}
 use Rattle.vme_trace.specs.declared.Fault.{Fault}
-use Rattle.vme_trace.specs.declared.Fault.TheVariants.{Read, Write}
+use Rattle.vme_trace.specs.declared.Fault.TheVariants.{Read}
 use Rattle.vme_trace.specs.Reading as trace
-use Rattle.vme_trace.specs.Writing.{AppendsFront}
-use Rattle.vme_reading.specs.declared.LineForm.{LineForm}
 use Rattle.vme_reading.specs.declared.Status.{Status}
 use Rattle.vme_reading.specs.declared.EngineFault.{EngineFault}
 use Rattle.vme_reading.specs.declared.EngineFault.TheVariants as fault
-use Rattle.vme_reading.specs.Outcomes.{Answer, form_lines, scenario_limit, status_with, CanGoOn}
+use Rattle.vme_reading.specs.Outcomes.{Answer, scenario_limit, CanGoOn}
 
 -- why there is no plan
 abbrev pub IsNoPlan : List ℕ → EngineFault → Type 0
@@ -87,33 +83,7 @@ abbrev pub Opens :
 Opens from to reader es (answer, left) =
     Comes from to [] left reader es answer × (answer ≡ Ok true → reader.version ≢ None)
 
--- ---- replay
-
--- what stands behind the verdicts of a piece: the closing line at the end of the trace
-abbrev pub ending : Result Bool Fault → ℕ → ℕ → List ℕ
-ending (Ok true) judged accepted = []
-ending (Ok false) judged accepted = closing_text accepted (judged - accepted)
-ending (Err f) judged accepted = []
-
--- what is written for the edges of a piece
-abbrev pub piece_text : LineForm → State → ℕ → List Edge → Result Bool Fault → List ℕ
-piece_text form b judged es more =
-    form_lines form b (judged + 1) es
-    ++ ending more (judged + length es) (length (kept b es).history)
-
--- What the edges of a piece do to a replay: `more` is what the read answered.
-abbrev pub TakesPiece :
-    LineForm → State → ℕ → List Edge → Result Bool Fault → Option (List ℕ) → Option (List ℕ)
-    → State → ℕ → Result (Option Status) Fault → Type 0
-TakesPiece form b judged es more old new b' judged' (Ok None) =
-    (more ≡ Ok true) × Appends old new (piece_text form b judged es more)
-    × (b' ≡ kept b es) × (judged' ≡ judged + length es)
-TakesPiece form b judged es more old new b' judged' (Ok (Some status)) =
-    (more ≡ Ok false) × Appends old new (piece_text form b judged es more)
-    × (status ≡ status_with (judged + length es - length (kept b es).history))
-TakesPiece form b judged es more old new b' judged' (Err f) =
-    ((more ≡ Err f) × Appends old new (piece_text form b judged es more))
-    ⊎ ((f ≡ Write) × AppendsFront old new (piece_text form b judged es more))
+-- ---- answers
 
 -- an engine's answer, its fault as one of the trace
 abbrev pub traced : Result Status Fault → Answer

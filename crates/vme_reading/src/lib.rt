@@ -23,7 +23,7 @@ pub use pairs::{Pair, PairFault, read_pair};
 pub use pieces::{JUDGED_AT_ONCE, buffer_of, has_paused};
 pub use plans::plan_of;
 pub use readings::{Judge, read, read_on};
-pub use reporting::{AtEach, at_each};
+pub use reporting::{AtEach, Reporting, at_each};
 pub use seeking::{Asked, AtEdge, Found, at_edge};
 pub use texts::{hand_on, make_room};
 use thiserror::Error;

@@ -28,93 +28,93 @@ pub trait AtEach: Drop {
     /// How many edges it took in.
     ghost count: { Self → ℕ };
 
-    /// It took in these edges of a trace of a version, on a plan, and these bytes are its lines at
-    /// them.
-    ghost knows: { PlanValue → VersionValue → List EdgeValue → List ℕ → Self → Type 0 };
+    /// It was begun with this, took in these edges of a trace of a version, on a plan, and these
+    /// bytes are its lines at them.
+    ghost knows: { Self.Task → PlanValue → VersionValue → List EdgeValue → List ℕ → Self
+        → Type 0 };
 
     /// These bytes are the lines at these edges.
-    ghost lines: { PlanValue → VersionValue → List EdgeValue → List ℕ → Type 0 };
+    ghost lines: { Self.Task → PlanValue → VersionValue → List EdgeValue → List ℕ → Type 0 };
 
     /// These bytes are the lines at these edges of a whole trace, and the last lines.
-    ghost text: { PlanValue → VersionValue → List EdgeValue → List ℕ → Type 0 };
+    ghost text: { Self.Task → PlanValue → VersionValue → List EdgeValue → List ℕ → Type 0 };
 
     /// Its own faults, at which it writes nothing more.
     ghost fails: { FaultValue → Type 0 };
 
     /// A law: what it knows as its lines are the lines.
-    ghost told: { (p : PlanValue) (v : VersionValue) (es : List EdgeValue) (bytes : List ℕ)
-        (now : Self) → knows p v es bytes now → lines p v es bytes };
+    ghost told: { (task : Self.Task) (p : PlanValue) (v : VersionValue) (es : List EdgeValue)
+        (bytes : List ℕ) (now : Self) → knows task p v es bytes now → lines task p v es bytes };
 
     /// Begins on a bus without edges.
     fn begin(task: &Self::Task, bus: Bus) -> Self
         ensures count { count result ≡ 0 }
         ensures knows { (p : PlanValue) (v : VersionValue) → bus ≡ bench p v
-            → knows p v [] [] result };
+            → knows task.now p v [] [] result };
 
     /// Takes in the next edge, and writes its lines.
     fn see<W: Write>(&mut self, edge: &Edge, out: &mut W) -> Result<(), Fault>
         requires room { count self.old + 1 < 2 ^ 64 }
         requires formed { IsTrue (is_well_formed edge.now) }
         ensures count { OnOk result (count self.new ≡ count self.old + 1) }
-        ensures knows { OnOk result ((p : PlanValue) (v : VersionValue) (es : List EdgeValue)
-            (first : Option (List ℕ))
-            → HasWritten (λ p v es bytes. knows p v es bytes self.old) p v es first
-            (W.contents out.old)
-            → HasWritten (λ p v es bytes. knows p v es bytes self.new) p v (es ++ edge.now ∷ [])
-            first (W.contents out.new)) }
-        ensures stops { IfErr result (λ fault. (p : PlanValue) (v : VersionValue)
+        ensures knows { OnOk result ((task : Self.Task) (p : PlanValue) (v : VersionValue)
             (es : List EdgeValue) (first : Option (List ℕ))
-            → HasWritten (λ p v es bytes. knows p v es bytes self.old) p v es first
+            → HasWritten (λ p v es bytes. knows task p v es bytes self.old) p v es first
             (W.contents out.old)
-            → StopsAt lines fails p v es (es ++ edge.now ∷ []) first (W.contents out.new) fault) };
+            → HasWritten (λ p v es bytes. knows task p v es bytes self.new) p v
+            (es ++ edge.now ∷ []) first (W.contents out.new)) }
+        ensures stops { IfErr result (λ fault. (task : Self.Task) (p : PlanValue)
+            (v : VersionValue) (es : List EdgeValue) (first : Option (List ℕ))
+            → HasWritten (λ p v es bytes. knows task p v es bytes self.old) p v es first
+            (W.contents out.old)
+            → StopsAt (lines task) fails p v es (es ++ edge.now ∷ []) first (W.contents out.new)
+            fault) };
+
+    /// Takes in the edges of a piece, and writes their lines. A command that can take in many at
+    /// once has a body of its own.
+    fn see_all<W: Write>(&mut self, edges: &[Edge], out: &mut W) -> Result<(), Fault>
+        requires room { count self.old + length edges.now < 2 ^ 64 }
+        requires formed { AreWellFormed edges.now }
+        ensures count { OnOk result (count self.new ≡ count self.old + length edges.now) }
+        ensures knows { OnOk result ((task : Self.Task) (p : PlanValue) (v : VersionValue)
+            (es : List EdgeValue) (first : Option (List ℕ))
+            → HasWritten (λ p v es bytes. knows task p v es bytes self.old) p v es first
+            (W.contents out.old)
+            → HasWritten (λ p v es bytes. knows task p v es bytes self.new) p v
+            (es ++ edges.now) first (W.contents out.new)) }
+        ensures stops { IfErr result (λ fault. (task : Self.Task) (p : PlanValue)
+            (v : VersionValue) (es : List EdgeValue) (first : Option (List ℕ))
+            → HasWritten (λ p v es bytes. knows task p v es bytes self.old) p v es first
+            (W.contents out.old)
+            → StopsAmong (lines task) fails p v es edges.now first (W.contents out.new) fault) }
+    {
+        for edge in edges {
+            self.see(edge, out)?;
+        }
+        Ok(())
+    }
 
     /// Writes the last lines, and has the writer hand on what it holds back. The status says
     /// whether some edge was refused.
     fn finish<W: Write>(&self, out: &mut W) -> Result<Status, Fault>
-        ensures ends { IfOk result (λ status. (p : PlanValue) (v : VersionValue)
-            (es : List EdgeValue) (first : Option (List ℕ))
-            → HasWritten (λ p v es bytes. knows p v es bytes self.now) p v es first
+        ensures ends { IfOk result (λ status. (task : Self.Task) (p : PlanValue)
+            (v : VersionValue) (es : List EdgeValue) (first : Option (List ℕ))
+            → HasWritten (λ p v es bytes. knows task p v es bytes self.now) p v es first
             (W.contents out.old)
-            → HasWritten text p v es first (W.contents out.new)
+            → HasWritten (text task) p v es first (W.contents out.new)
             × (status ≡ status_with (refused_count p (Some v) es))) }
-        ensures cut { OnErr result ((p : PlanValue) (v : VersionValue) (es : List EdgeValue)
-            (first : Option (List ℕ))
-            → HasWritten (λ p v es bytes. knows p v es bytes self.now) p v es first
+        ensures cut { OnErr result ((task : Self.Task) (p : PlanValue) (v : VersionValue)
+            (es : List EdgeValue) (first : Option (List ℕ))
+            → HasWritten (λ p v es bytes. knows task p v es bytes self.now) p v es first
             (W.contents out.old)
-            → HasWrittenFront text p v es first (W.contents out.new)) }
+            → HasWrittenFront (text task) p v es first (W.contents out.new)) }
         ensures fault { IfErr result (λ fault. fault ≡ Fault.Write) };
 }
 
-/// A trace under way.
+/// A trace under way, as [`at_each`] reads it.
 #[derive(Drop)]
-struct Reporting<W> {
-    at: W,
-}
-
-impl<S: AtEach> Reporting<S> {
-    /// Takes in the edges of a piece, and writes their lines.
-    fn take_edges<W: Write>(&mut self, edges: &[Edge], out: &mut W) -> Result<(), Fault>
-        requires room { S.count self.old.at + length edges.now < 2 ^ 64 }
-        requires formed { AreWellFormed edges.now }
-        ensures count { OnOk result
-            (S.count self.new.at ≡ S.count self.old.at + length edges.now) }
-        ensures knows { OnOk result ((p : PlanValue) (v : VersionValue) (es : List EdgeValue)
-            (first : Option (List ℕ))
-            → HasWritten (λ p v es bytes. S.knows p v es bytes self.old.at) p v es first
-            (W.contents out.old)
-            → HasWritten (λ p v es bytes. S.knows p v es bytes self.new.at) p v (es ++ edges.now)
-            first (W.contents out.new)) }
-        ensures stops { IfErr result (λ fault. (p : PlanValue) (v : VersionValue)
-            (es : List EdgeValue) (first : Option (List ℕ))
-            → HasWritten (λ p v es bytes. S.knows p v es bytes self.old.at) p v es first
-            (W.contents out.old)
-            → StopsAmong S.lines S.fails p v es edges.now first (W.contents out.new) fault) }
-    {
-        for edge in edges {
-            self.at.see(edge, out)?;
-        }
-        Ok(())
-    }
+pub struct Reporting<S> {
+    at: S,
 }
 
 impl<S: AtEach> Judge for Reporting<S> {
@@ -126,14 +126,14 @@ impl<S: AtEach> Judge for Reporting<S> {
 
     ghost count = { λ now. S.count now.at };
 
-    ghost stands = { λ _ p v es old new now.
-        HasWritten (λ p v es bytes. S.knows p v es bytes now.at) p v es old new };
+    ghost stands = { λ task p v es old new now.
+        HasWritten (λ p v es bytes. S.knows task p v es bytes now.at) p v es old new };
 
-    ghost leaves = { λ _ p trace s answer.
-        ReportsEach S.lines S.text S.fails p trace s answer };
+    ghost leaves = { λ task p trace s answer.
+        ReportsEach (S.lines task) (S.text task) S.fails p trace s answer };
 
     ghost unbegun = { λ task can p trace s f kept h.
-        reports_unbegun S.lines S.text S.fails p trace s f kept h };
+        reports_unbegun (S.lines task) (S.text task) S.fails p trace s f kept h };
 
     fn begin(task: &S::Task, bus: Bus) -> Reporting<S> {
         Reporting {
@@ -149,7 +149,7 @@ impl<S: AtEach> Judge for Reporting<S> {
         paused: bool,
         out: &mut W,
     ) -> Result<Option<Status>, Fault> {
-        self.take_edges(edges, out)?;
+        self.at.see_all(edges, out)?;
         match more {
             Ok(true) => {
                 if paused {
@@ -186,7 +186,7 @@ pub fn at_each<S: AtEach, R: Read, W: Write>(
     ensures { let s = streams (R.remaining trace.old) (R.remaining trace.new)
         (W.contents out.old) (W.contents out.new) in
         ReadsLent scenario.now (ReadNothing s × WroteNothing s)
-        (λ p. ReadsInput (ReportsEach S.lines S.text S.fails p) s) result }
+        (λ p. ReadsInput (ReportsEach (S.lines task.now) (S.text task.now) S.fails p) s) result }
 {
     read::<Reporting<S>, R, W>(alloc, scenario, task, trace, out)
 }

@@ -2,8 +2,8 @@
 pub mod RecordedLines
 -- the digits of a number and of the next one: src/counts.rt
 pub mod NextNumber
--- a replay, piece by piece: src/replays.rt, `joins::replay_behind`
-pub mod ReplayPieces
+-- what is left of a trace: src/replays.rt, `joins::replay_rest`
+pub mod LeftOfTrace
 -- where the first header line of an input is: `Fronts`
 pub mod FirstHeader
 -- the input before its trace, byte by byte: `Front::take` and `find`, `joins::joined`

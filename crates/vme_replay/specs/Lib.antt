@@ -9,3 +9,5 @@ pub mod Front
 pub mod Counting
 -- words: what is written of a list of answers, and found in it
 pub mod Recorded
+-- words: a replay, behind some edges of a trace
+pub mod Replayed

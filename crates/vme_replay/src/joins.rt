@@ -14,7 +14,8 @@ use std::io::{Read, Write};
 use vme_bus::Bus;
 use vme_model::{Edge, Version};
 use vme_reading::{
-    EngineFault, Judge, LineForm, READS, SCENARIO_LIMIT, Status, buffer_of, plan_of, read_on,
+    EngineFault, Judge, LineForm, READS, Reporting, SCENARIO_LIMIT, Status, buffer_of, plan_of,
+    read_on,
 };
 use vme_slots::Plan;
 use vme_trace::{Fault, Reader, header_line, header_of, read_piece};
@@ -169,7 +170,7 @@ fn replay_rest<R: Read, W: Write>(
     let mut reader = Reader::new();
     let mut edges = Vec::new(alloc);
     let first = start(&mut reader, version, rest, &mut edges);
-    let mut replay = Replaying::begin(&LineForm::Short, Bus::new(plan, version));
+    let mut replay = Reporting::<Replaying>::begin(&LineForm::Short, Bus::new(plan, version));
     read_on(
         &mut replay,
         &mut reader,

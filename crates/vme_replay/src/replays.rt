@@ -1,10 +1,13 @@
 //! Replaying a trace: a verdict on each edge, and the closing line.
-ghost use Rattle.std.specs.Prelude.{◌≡◌, ◌+◌, ◌<◌, ◌^◌, [], length, None, Ok, true};
+ghost use Rattle.std.specs.Prelude.{◌≡◌, ◌+◌, ◌<◌, ◌^◌, ◌++◌, ℕ, List, Option, IfErr, OnOk, length};
+ghost use Rattle.vme_model.specs.declared.signals.Edge.{Edge as EdgeValue};
+ghost use Rattle.vme_model.specs.declared.signals.Version.{Version as VersionValue};
+ghost use Rattle.vme_model.specs.Plan.{Plan as PlanValue};
 ghost use Rattle.vme_model.specs.Locality.{AreWellFormed};
 ghost use Rattle.vme_reading.specs.Streams.{streams, ReadNothing, WroteNothing};
-ghost use Rattle.vme_reading.specs.Outcomes.{LentAsking, Replays, ReplaysInput, bench};
-ghost use Rattle.vme_reading.specs.Steps.{TakesPiece, traced};
-ghost use Rattle.vme_reading.proofs.FirstReads.{replay_unbegun};
+ghost use Rattle.vme_reading.specs.Outcomes.{LentAsking, ReplaysInput};
+ghost use Rattle.vme_reading.specs.Reporting.{HasWritten, HasWrittenFront};
+ghost use Rattle.vme_replay.specs.Replayed.{AreLines, IsKnown, IsText};
 
 use crate::forms::write_form;
 use crate::lines::close;
@@ -12,50 +15,9 @@ use std::alloc::Global;
 use std::io::{Read, Write};
 use vme_bus::Bus;
 use vme_model::Edge;
-use vme_reading::{EngineFault, Judge, LineForm, Status, read};
+use vme_reading::{AtEach, EngineFault, LineForm, Status, at_each};
 use vme_text::Text;
-use vme_trace::{Fault, flush};
-
-/// Writes the lines of the edges of a piece, and at the end of the trace the closing line.
-///
-/// `more` is what the read of the piece answered. None if the trace goes on; if its writer has
-/// `paused`, `out` hands on what it holds back.
-fn take_piece<W: Write>(
-    form: LineForm,
-    bus: &mut Bus,
-    judged: &mut u64,
-    edges: &[Edge],
-    text: &mut Text,
-    more: Result<bool, Fault>,
-    paused: bool,
-    out: &mut W,
-) -> Result<Option<Status>, Fault>
-    requires well_formed { AreWellFormed edges.now }
-    requires count { judged.old + length edges.now < 2 ^ 64 }
-    ensures { TakesPiece form bus.old judged.old edges.now more
-        (W.contents out.old) (W.contents out.new) bus.new judged.new result }
-{
-    write_form(form, bus, *judged, edges, text, out)?;
-    *judged += edges.len() as u64;
-    match more {
-        Ok(true) => {
-            if paused {
-                flush(out)?;
-            }
-            Ok(None)
-        }
-        Ok(false) => {
-            let accepted = u64::from(bus.len());
-            let refused = judged.saturating_sub(accepted);
-            close(accepted, refused, out)?;
-            Ok(Some(Status::of_refused(refused)))
-        }
-        Err(fault) => {
-            flush(out)?;
-            Err(fault)
-        }
-    }
-}
+use vme_trace::Fault;
 
 /// A replay under way.
 #[derive(Drop)]
@@ -68,21 +30,53 @@ pub(crate) struct Replaying {
     text: Text,
 }
 
-impl Judge for Replaying {
+impl Replaying {
+    /// Judges the next edges, and writes their lines.
+    fn judge<W: Write>(&mut self, edges: &[Edge], out: &mut W) -> Result<(), Fault>
+        requires room { self.old.judged + length edges.now < 2 ^ 64 }
+        requires formed { AreWellFormed edges.now }
+        ensures judged { OnOk result (self.new.judged ≡ self.old.judged + length edges.now) }
+        ensures knows { OnOk result ((form : LineForm) (p : PlanValue) (v : VersionValue)
+            (es : List EdgeValue) (first : Option (List ℕ))
+            → HasWritten (λ p v es bytes. IsKnown form p v es bytes self.old) p v es first
+            (W.contents out.old)
+            → HasWritten (λ p v es bytes. IsKnown form p v es bytes self.new) p v
+            (es ++ edges.now) first (W.contents out.new)) }
+        ensures stops { IfErr result (λ fault. (fault ≡ Fault.Write)
+            × ((form : LineForm) (p : PlanValue) (v : VersionValue) (es : List EdgeValue)
+            (first : Option (List ℕ))
+            → HasWritten (λ p v es bytes. IsKnown form p v es bytes self.old) p v es first
+            (W.contents out.old)
+            → HasWrittenFront (AreLines form) p v (es ++ edges.now) first
+            (W.contents out.new))) }
+    {
+        write_form(
+            self.form,
+            &mut self.bus,
+            self.judged,
+            edges,
+            &mut self.text,
+            out,
+        )?;
+        self.judged += edges.len() as u64;
+        Ok(())
+    }
+}
+
+impl AtEach for Replaying {
     type Task = LineForm;
-
-    type Answer = Status;
-
-    ghost can = { λ _. Unit {0} };
 
     ghost count = { λ now. now.judged };
 
-    ghost stands = { λ form p v es old new now. (now.form ≡ form)
-        × TakesPiece form (bench p v) 0 es (Ok true) old new now.bus now.judged (Ok None) };
+    ghost knows = { IsKnown };
 
-    ghost leaves = { λ form p trace s answer. Replays form p [] trace s (traced answer) };
+    ghost lines = { AreLines };
 
-    ghost unbegun = { λ form can. replay_unbegun form };
+    ghost text = { IsText };
+
+    ghost fails = { λ _. ⊥ };
+
+    ghost told = { λ form p v es bytes now known. known.lines };
 
     fn begin(task: &LineForm, bus: Bus) -> Replaying {
         Replaying {
@@ -93,23 +87,21 @@ impl Judge for Replaying {
         }
     }
 
-    fn take<W: Write>(
-        &mut self,
-        edges: &[Edge],
-        more: Result<bool, Fault>,
-        paused: bool,
-        out: &mut W,
-    ) -> Result<Option<Status>, Fault> {
-        take_piece(
-            self.form,
-            &mut self.bus,
-            &mut self.judged,
-            edges,
-            &mut self.text,
-            more,
-            paused,
-            out,
-        )
+    fn see<W: Write>(&mut self, edge: &Edge, out: &mut W) -> Result<(), Fault> {
+        self.judge(&[*edge], out)
+    }
+
+    /// Judges the edges together, which takes less work.
+    fn see_all<W: Write>(&mut self, edges: &[Edge], out: &mut W) -> Result<(), Fault> {
+        self.judge(edges, out)
+    }
+
+    /// Writes the closing line.
+    fn finish<W: Write>(&self, out: &mut W) -> Result<Status, Fault> {
+        let accepted = u64::from(self.bus.len());
+        let refused = self.judged.saturating_sub(accepted);
+        close(accepted, refused, out)?;
+        Ok(Status::of_refused(refused))
     }
 }
 
@@ -134,5 +126,5 @@ pub fn replay<R: Read, W: Write>(
         (W.contents out.old) (W.contents out.new) in
         LentAsking scenario.now (ReadNothing s × WroteNothing s) (ReplaysInput form s) result }
 {
-    read::<Replaying, R, W>(alloc, scenario, &form, trace, out)
+    at_each::<Replaying, R, W>(alloc, scenario, &form, trace, out)
 }

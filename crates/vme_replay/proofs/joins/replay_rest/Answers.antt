@@ -1,7 +1,7 @@
 use Rattle.std.proofs.Common.{[], ◌∷◌, ◌++◌}
 use Rattle.vme_model.specs.Text.{header}
 use Rattle.vme_reading.specs.declared.LineForm.TheVariants.{Short}
-use Rattle.vme_replay.proofs.ReplayPieces.{behind_text, input_of, replays_behind}
+use Rattle.vme_replay.proofs.LeftOfTrace.{behind_text, input_of, replays_behind, reported}
 use Rattle.vme_replay.proofs.AfterScenario.{came_start, counted_start}
 use Rattle.vme_replay.proofs.FormedStarts.{formed_start}
 use Rattle.vme_replay.proofs.joins.replay_rest.Goals as goal
@@ -24,5 +24,5 @@ returns g c =
     let ran = c.read_on.ensures Short c.args.plan v (c.begin-replay.ensures.stands c.args.plan v _ c.new.ensures) mid.0 head c.start-first.ensures.version came in (
       ran.0,
       input_of from mid.0 before (head ++ ran.0) mid.1 ran.1,
-      replays_behind Short _ before (head ++ ran.0) from mid.0 _ _ _ mid.1 _ ran.2,
+      replays_behind Short _ before (head ++ ran.0) from mid.0 _ _ _ mid.1 _ (reported Short c.args.plan (head ++ ran.0) _ c.read_on.result ran.2),
     )

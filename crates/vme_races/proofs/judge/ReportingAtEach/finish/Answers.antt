@@ -6,18 +6,18 @@ use Rattle.vme_races.proofs.judge.ReportingAtEach.finish.Goals as goal
 
 pub returns-in_err-put-clause-cut : goal.returns-in_err-put-clause-cut
 returns-in_err-put-clause-cut g c =
-    on_err c.from_residual.result _ (λ p v es first known.
+    on_err c.from_residual.result _ (λ _ p v es first known.
     ends_cut p v es first (g.W.Write.contents c.args.out.now) (g.W.Write.contents c.put.new.out) c.args.self.now known c.last_line-line.result.items (search rules)
     (rw (c.as_slice.ensures.value) at c.in_err-put.ensures.front))
 
 pub returns-in_err-flush-clause-cut : goal.returns-in_err-flush-clause-cut
 returns-in_err-flush-clause-cut g c =
-    on_err c.from_residual-in_err-flush.result _ (λ p v es first known.
+    on_err c.from_residual-in_err-flush.result _ (λ _ p v es first known.
     ends_unflushed p v es first (g.W.Write.contents c.args.out.now) (g.W.Write.contents c.flush.new.out) c.args.self.now known c.last_line-line.result.items (search rules)
     (g.W.Write.contents c.put.new.out) (rw (c.as_slice.ensures.value) at c.in_ok-put.ensures.ok) c.in_err-flush.ensures.kept)
 
 pub returns-clause-ends : goal.returns-clause-ends
-returns-clause-ends g c = λ p v es first known.
+returns-clause-ends g c = λ _ p v es first known.
     let made : c.from-accepted.result ≡ length c.args.self.now.racing.bus.history = search rules in (
       ends p v es first (g.W.Write.contents c.args.out.now) (g.W.Write.contents c.flush.new.out) c.args.self.now known c.last_line-line.result.items (search rules)
           (g.W.Write.contents c.put.new.out) (rw (c.as_slice.ensures.value) at c.in_ok-put.ensures.ok) c.in_ok-flush.ensures.kept,
