@@ -13,5 +13,6 @@ returns-clause-ends g c = λ form p v es first known.
     let accepted = c.from-accepted.ensures ∙ c.len.ensures in
     let refused = c.saturating_sub-refused.ensures in (
       ends form p v es first _ _ c.args.self.now known _ _ accepted refused c.in_ok-close.ensures.ok,
-      c.of_refused.ensures ∙ ap (λ n. status_with n) (all_refused form p v es first _ _ c.args.self.now known _ _ accepted refused),
+      c.of_refused.ensures ∙ ap (λ n. status_with n)
+          (all_refused form p v es first _ (g.W.Write.contents c.close.new.out) c.args.self.now known _ _ accepted refused),
     )
