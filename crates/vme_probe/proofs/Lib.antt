@@ -42,6 +42,8 @@ pub mod ChainBehind
 pub mod GrantsKept
 -- and stays so with the edges that no probe sees: `hindered_laws`
 pub mod GrantsHidden
+-- and behind a change that somebody may have made: `hindered_laws`
+pub mod GrantsBehind
 -- what stands in the way of any change: `hindered_laws`
 pub mod AllHindered
 -- what is known of a cycle fits together: `laws`
