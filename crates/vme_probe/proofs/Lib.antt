@@ -46,6 +46,12 @@ pub mod GrantsHidden
 pub mod GrantsBehind
 -- what stands in the way of any change: `hindered_laws`
 pub mod AllHindered
+-- what is known behind a capture fits together: `led_laws`
+pub mod Leading
+-- the levels that are known are those that were said: `led_laws`
+pub mod SaidLevels
+-- a condition is named for each driver in the text of a capture that is impossible: `led_laws`
+pub mod ToldHindered
 -- what is known of a cycle fits together: `laws`
 pub mod Fitting
 -- the lines of the changes that may come: `answers`
