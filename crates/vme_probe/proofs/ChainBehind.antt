@@ -75,7 +75,7 @@ contrary : (b : Bool) → b ≡ true → not b ≡ true → ⊥
 contrary true h k = never false k refl
 contrary false h k = never false h refl
 
-made : (may : Drivers) → is_nobody may ≡ false → (may.controller ≡ true) ⊎ ((s : ℕ) × (has may.boards s ≡ true))
+pub made : (may : Drivers) → is_nobody may ≡ false → (may.controller ≡ true) ⊎ ((s : ℕ) × (has may.boards s ≡ true))
 made may some = elim (cases_Bool may.controller) [
   | inl c ↦ inl c
   | inr none ↦ inr (some_bit may.boards.bits may.boards.bits (omega arith) (is_false (may.boards.bits == 0) (λ z. never (is_nobody may) (rw (none, z) refl) some)))

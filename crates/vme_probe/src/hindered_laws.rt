@@ -107,10 +107,15 @@ pub fn grants_begin_fitting_together()
         → GrantsFit p probed st }
 {}
 
-/// What is known of the grants stays fitting together with the edges that no probe sees.
-#[tactic(auto, using(crate::proofs::GrantsHidden::hidden))]
+/// What is known of the grants stays fitting together with the edges that no probe sees, and behind
+/// a change that somebody may have made.
+#[tactic(auto, using(crate::proofs::GrantsHidden::hidden, crate::proofs::GrantsBehind::behind))]
 pub fn grants_stay_fitting_together()
     ensures hidden { (p : Plan) (probed : Probed) (old new : Standings) → IsAccepted p
         → HasMoved p probed old new → HoldsBits new.phases → GrantsFit p probed old
+        → GrantsFit p probed new }
+    ensures behind { (p : Plan) (probed : Probed) (old new : Standings) (c : Change)
+        (may : Drivers) → IsAccepted p → AreDrivers p probed old c may → is_nobody may ≡ false
+        → IsBehind p probed old c new → HoldsBits new.phases → GrantsFit p probed old
         → GrantsFit p probed new }
 {}
