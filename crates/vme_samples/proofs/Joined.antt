@@ -111,7 +111,8 @@ module _ (earlier later : List SeenChange) where
     first_shifted : Shifted (set_of first) (set_of [])
     first_shifted = record {
       all = order.whole;
-      same = λ k. off (bit_at (set_of first).bits (length earlier + k)) (bit_at_above (set_of first).bits (length earlier) (length earlier + k) (places_near earlier first before order.ordered) (omega arith))
+      same = λ k. off (bit_at (set_of first).bits (length earlier + k))
+          (bit_at_above (set_of first).bits (length earlier) (length earlier + k) (places_near earlier first before order.ordered) (omega arith))
           ∙ sym (none_in (set_of []) refl k);
     }
       where
@@ -164,7 +165,8 @@ module _ (earlier later : List SeenChange) where
         let both = ordered_later second here now.ordered in
         record { ordered = both.ordered; whole = λ i l. by_place both.set i (cases_lt i (length earlier)) l }
       where
-        by_place : Shifted (set_of (shifted second ++ first)) (set_of second) → (i : ℕ) → (i < length earlier) ⊎ (length earlier ≤ i) → i < length joined → has_place (set_of (shifted second ++ first)) i ≡ true
+        by_place : Shifted (set_of (shifted second ++ first)) (set_of second) → (i : ℕ) → (i < length earlier) ⊎ (length earlier ≤ i) → i < length joined
+            → has_place (set_of (shifted second ++ first)) i ≡ true
         by_place s i (inl m) l = s.all i m
         by_place s i (inr m) l =
             let many : length joined ≡ length earlier + length later = length_both earlier later in
