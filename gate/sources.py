@@ -12,6 +12,7 @@ Texts = Dict[str, str]
 
 FUNCTION = re.compile(r'( *)(?:pub(?:\([a-z: ]+\))? )?(?:const |unsafe |extern "C" )*fn (\w+)')
 IMPL = re.compile(r"(?:unsafe )?impl\b")
+TRAIT = re.compile(r"(?:pub(?:\([a-z: ]+\))? )?(?:unsafe )?trait (\w+)")
 NAMED = re.compile(r"(?:pub(?:\([a-z: ]+\))? )?(?:const|static|macro_rules!) (\w+)")
 ENSURES = re.compile(r" *ensures (\w+) \{")
 
@@ -43,6 +44,8 @@ def functions(crate: str, file: str, text: str) -> list[Function]:
     for at, line in enumerate(lines):
         if IMPL.match(line):
             owner, owner_end = owner_of(header(lines, at)), end_of(lines, at, 0)
+        elif trait := TRAIT.match(line):
+            owner, owner_end = trait[1], end_of(lines, at, 0)
         match = FUNCTION.match(line)
         if match:
             indent = len(match[1])

@@ -84,11 +84,14 @@ class Stubs(Case):
         self.same("calls of itself", found, [[*own], []])
 
     def test_folders(self) -> None:
-        """A method's proof lies where its type is declared, and each folder of a proof of this repository is found to be that of a function."""
+        """A method's proof lies where its type or trait is declared, and each folder of a proof of this repository is found to be that of a function."""
         texts = {"src/lib.rt": "mod kinds;\n", "src/kinds.rt": "pub(crate) struct Kind {\n    pub value: u8,\n}\n"}
         texts["src/values.rt"] = "impl Kind {\n    fn value(&self) -> u8 {\n        self.value\n    }\n}\n"
         (value,) = sources.functions("numbers", "src/values.rt", texts["src/values.rt"])
         self.same("a method's proof", stubs.folder_of("numbers", "src/values.rt", value, texts), "proofs/kinds/Kind/value")
+        texts["src/kinds.rt"] += "\npub trait Named {\n    fn name(&self) -> u8;\n\n    fn code(&self) -> u8 {\n        self.name()\n    }\n}\n"
+        _, code = sources.functions("numbers", "src/kinds.rt", texts["src/kinds.rt"])
+        self.same("a trait's own method", (code.path, stubs.folder_of("numbers", "src/kinds.rt", code, texts)), ("Named::code", "proofs/kinds/Named/code"))
         repository = Repository(os.path.dirname(GATE))
         self.same("each proof is of a function", [folder for crate in repository.lines for folder in folders_of_none(crate, repository.texts(crate))], [])
 
