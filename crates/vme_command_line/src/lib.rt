@@ -685,6 +685,8 @@ fn job_at<'a>(error: Error) -> Result<Job<'a>, Error>
 ///
 /// # Errors
 /// A usage error, or a request for help. Its `Display` is the text for the user.
+// The parser takes 15 KiB of stack, which a job needs for itself.
+#[inline(never)]
 pub fn words<'a>(alloc: Global, words: &'a [&'a str]) -> Result<Job<'a>, Error>
     ensures within { IfOk result IsWithin }
     ensures asked { IfOk result (Ask (texts_of words.entry.now)) }
