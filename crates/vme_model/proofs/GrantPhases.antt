@@ -1,11 +1,11 @@
 -- The grant chains, as four phases: what holds in each, and the phase to which each edge leads.
 use Rattle.std.proofs.Common.{◌≡◌, ◌≢◌, ◌⊎◌, ℕ, zero, suc, ◌+◌, ◌-◌, ◌<◌, ◌≤◌, Bool, true, false, List, [], ◌∷◌, Option, Some, None, refl, sym, ap, ◌∙◌, subst, arith, inl, inr, ⊎_elim}
-use Rattle.std.specs.Prelude.{◌&&◌, nat_lt, if◌then◌else◌, map}
+use Rattle.std.specs.Prelude.{map}
 use Rattle.std.proofs.lemmas.Bool.{cases_lt}
 use Rattle.vme_model.specs.declared.signals.Driver.{Driver}
 use Rattle.vme_model.specs.declared.signals.Driver.TheVariants.{Slot}
 use Rattle.vme_model.proofs.Bools.{is_false}
-use Rattle.vme_model.proofs.Below.{IsGreatest, IsBelow, low_part, same_part, more_part, not_less, same_less}
+use Rattle.vme_model.proofs.Below.{IsBelow, low_part, same_part, more_part, none_part, same_less}
 
 -- what the drivers of the grant side drive, and what the edges since the last grant were
 pub record GrantWires : Type 0 where
@@ -32,6 +32,12 @@ pub data Phase : Type 0 where
   Granting : (c hi : ℕ) → Phase
   Held : (c k lo : ℕ) (g : Bool) → Phase
   Expired : (c lo : ℕ) → Phase
+
+abbrev pub chain_of : Phase → ℕ
+chain_of Idle = 0
+chain_of (Granting c hi) = c
+chain_of (Held c k lo g) = c
+chain_of (Expired c lo) = c
 
 abbrev pub segment_of : GrantWires → ℕ → Option ℕ → Bool
 segment_of v n None = v.bg n
@@ -63,63 +69,97 @@ least_from : (test : ℕ → Bool) (a w : ℕ) → a ≤ w → test w ≡ true �
 least_from test a w l h = least_at test (w - a) a w (omega arith) h
 
 module _ (on : ℕ → ℕ → Bool) (slots : ℕ) (two : Bool) where
-  pub record IsIdle (v : GrantWires) : Type 0 where
-    pub bg_high : (n : ℕ) → v.bg n ≡ false
-    pub out_high : (s : ℕ) → v.out s ≡ false
-    pub free : (s : ℕ) → v.busy s ≡ false
+  pub record IsIdle (bg out busy : ℕ → Bool) : Type 0 where
+    pub bg_high : (n : ℕ) → bg n ≡ false
+    pub out_high : (s : ℕ) → out s ≡ false
+    pub free : (s : ℕ) → busy s ≡ false
 
   -- a board at or above the front waits
-  pub record IsWanted (v : GrantWires) (c hi : ℕ) : Type 0 where
+  pub record IsWanted (br : ℕ → Bool) (c hi : ℕ) : Type 0 where
     pub waiter : ℕ
     pub waiter_on : on c waiter ≡ true
     pub waiter_above : hi ≤ waiter
-    pub waits : v.br waiter ≡ true
+    pub waits : br waiter ≡ true
 
-  pub record IsWithdrawn (v : GrantWires) (c : ℕ) : Type 0 where
+  -- a slot of chain c gave its request up
+  pub record GaveUp (withdrawn : ℕ → Bool) (c : ℕ) : Type 0 where
     pub version : two ≡ true
-    pub withdrew : v.withdrawn c ≡ true
+    pub withdrew : withdrawn c ≡ true
+
+  abbrev pub IsWithdrawn : GrantWires → ℕ → Type 0
+  IsWithdrawn v c = GaveUp v.withdrawn c
+
+  abbrev pub IsDue : (br withdrawn : ℕ → Bool) (c hi : ℕ) → Type 0
+  IsDue br withdrawn c hi = IsWanted br c hi ⊎ GaveUp withdrawn c
+
+  -- the controller grants chain c, and nobody has taken the bus
+  pub record IsGranted (bg busy : ℕ → Bool) (last : Option ℕ) (taken : Bool) (c : ℕ) : Type 0 where
+    pub few : c < 4
+    pub bg_low : bg c ≡ true
+    pub bg_only : (n : ℕ) → bg n ≡ true → n ≡ c
+    pub free : (s : ℕ) → busy s ≡ false
+    pub granted : last ≡ Some c
+    pub untaken : taken ≡ false
+
+  -- the slots below hi passed the grant on
+  pub record HasReached (out : ℕ → Bool) (passes : List (Driver × Bool)) (c hi : ℕ) : Type 0 where
+    pub out_on : (s : ℕ) → out s ≡ true → on c s ≡ true
+    pub out_below : (s : ℕ) → out s ≡ true → s < hi
+    pub out_each : (s : ℕ) → on c s ≡ true → s < hi → out s ≡ true
+    pub passers : passes ≡ quiet (low_part (on c) hi slots)
 
   pub record IsGranting (v : GrantWires) (c hi : ℕ) : Type 0 where
-    pub few : c < 4
-    pub bg_low : v.bg c ≡ true
-    pub bg_only : (n : ℕ) → v.bg n ≡ true → n ≡ c
-    pub out_on : (s : ℕ) → v.out s ≡ true → on c s ≡ true
-    pub out_below : (s : ℕ) → v.out s ≡ true → s < hi
-    pub out_each : (s : ℕ) → on c s ≡ true → s < hi → v.out s ≡ true
-    pub free : (s : ℕ) → v.busy s ≡ false
-    pub wanted : IsWanted v c hi ⊎ IsWithdrawn v c
-    -- how the grant reached its place
-    pub granted : v.granted ≡ Some c
-    pub untaken : v.taken ≡ false
-    pub passers : v.passers ≡ quiet (low_part (on c) hi slots)
+    pub begun : IsGranted v.bg v.busy v.granted v.taken c
+    pub open begun use *
+    pub reached : HasReached v.out v.passers c hi
+    pub open reached use *
+    pub due : IsDue v.br v.withdrawn c hi
 
-  pub record IsHeld (v : GrantWires) (c k lo : ℕ) (g : Bool) : Type 0 where
+  pub record IsHolder (busy : ℕ → Bool) (c k : ℕ) : Type 0 where
     pub member : on c k ≡ true
-    pub bg_low : v.bg c ≡ g
-    pub bg_only : (n : ℕ) → v.bg n ≡ true → n ≡ c
+    pub holds : busy k ≡ true
+    pub only : (s : ℕ) → busy s ≡ true → s ≡ k
+
+  -- the controller's segment of chain c is low if g is true, and no other
+  pub record IsLed (bg : ℕ → Bool) (c lo : ℕ) (g : Bool) : Type 0 where
+    pub bg_low : bg c ≡ g
+    pub bg_only : (n : ℕ) → bg n ≡ true → n ≡ c
     pub from_start : g ≡ true → lo ≡ 0
-    pub out_on : (s : ℕ) → v.out s ≡ true → on c s ≡ true
-    pub out_below : (s : ℕ) → v.out s ≡ true → s < k
-    pub out_above : (s : ℕ) → v.out s ≡ true → lo ≤ s
-    pub out_each : (s : ℕ) → on c s ≡ true → lo ≤ s → s < k → v.out s ≡ true
-    pub holds : v.busy k ≡ true
-    pub only : (s : ℕ) → v.busy s ≡ true → s ≡ k
+
+  -- the segments from lo up to slot k are low
+  pub record IsBetween (out : ℕ → Bool) (c lo k : ℕ) : Type 0 where
+    pub out_on : (s : ℕ) → out s ≡ true → on c s ≡ true
+    pub out_below : (s : ℕ) → out s ≡ true → s < k
+    pub out_above : (s : ℕ) → out s ≡ true → lo ≤ s
+    pub out_each : (s : ℕ) → on c s ≡ true → lo ≤ s → s < k → out s ≡ true
+
+  pub record IsHeld (bg out busy : ℕ → Bool) (c k lo : ℕ) (g : Bool) : Type 0 where
+    pub holder : IsHolder busy c k
+    pub open holder use *
+    pub led : IsLed bg c lo g
+    pub open led use *
+    pub between : IsBetween out c lo k
+    pub open between use *
 
   -- the controller took the grant back after it had passed the last slot
-  pub record IsExpired (v : GrantWires) (c lo : ℕ) : Type 0 where
+  pub record IsOver (bg busy : ℕ → Bool) (c : ℕ) : Type 0 where
     pub version : two ≡ true
     pub few : c < 4
-    pub bg_high : (n : ℕ) → v.bg n ≡ false
-    pub out_on : (s : ℕ) → v.out s ≡ true → on c s ≡ true
-    pub out_above : (s : ℕ) → v.out s ≡ true → lo ≤ s
-    pub out_each : (s : ℕ) → on c s ≡ true → lo ≤ s → v.out s ≡ true
-    pub free : (s : ℕ) → v.busy s ≡ false
+    pub bg_high : (n : ℕ) → bg n ≡ false
+    pub free : (s : ℕ) → busy s ≡ false
+
+  pub record IsExpired (bg out busy : ℕ → Bool) (c lo : ℕ) : Type 0 where
+    pub over : IsOver bg busy c
+    pub open over use *
+    pub out_on : (s : ℕ) → out s ≡ true → on c s ≡ true
+    pub out_above : (s : ℕ) → out s ≡ true → lo ≤ s
+    pub out_each : (s : ℕ) → on c s ≡ true → lo ≤ s → out s ≡ true
 
   abbrev pub InPhase : GrantWires → Phase → Type 0
-  InPhase v Idle = IsIdle v
+  InPhase v Idle = IsIdle v.bg v.out v.busy
   InPhase v (Granting c hi) = IsGranting v c hi
-  InPhase v (Held c k lo g) = IsHeld v c k lo g
-  InPhase v (Expired c lo) = IsExpired v c lo
+  InPhase v (Held c k lo g) = IsHeld v.bg v.out v.busy c k lo g
+  InPhase v (Expired c lo) = IsExpired v.bg v.out v.busy c lo
 
   abbrev pub Phased : GrantWires → Type 0
   Phased v = (p : Phase) × InPhase v p
@@ -131,430 +171,28 @@ module _ (on : ℕ → ℕ → Bool) (slots : ℕ) (two : Bool) where
   abbrev pub Within : Type 0
   Within = (n s : ℕ) → on n s ≡ true → (1 ≤ s) × (s ≤ slots)
 
+  -- no grant is low, and nobody holds the bus
+  abbrev pub NoneGranted : GrantWires → Type 0
+  NoneGranted v = (m : ℕ) → m < 4 → v.bg m ≡ false
+
+  abbrev pub AllFree : GrantWires → Type 0
+  AllFree v = (m s : ℕ) → on m s ≡ true → v.busy s ≡ false
+
+  -- every segment of the second version is high
+  abbrev pub AllPassed : GrantWires → Type 0
+  AllPassed v = two ≡ true → (m s : ℕ) → on m s ≡ true → v.out s ≡ false
+
   -- slot s works the chain of level m, and found is what stands before it there
   pub record IsAt (m s : ℕ) (found : Option ℕ) : Type 0 where
     pub member : on m s ≡ true
     pub before : IsBelow (on m) s found
 
-  idle_low : (v : GrantWires) (m : ℕ) (found : Option ℕ) → IsIdle v → segment_of v m found ≡ true → ⊥
-  idle_low v m None i low = cc (i.bg_high m)
-  idle_low v m (Some p) i low = cc (i.out_high p)
+  -- what stands before each slot of chain n, and last
+  abbrev pub AllBefore : ℕ → (ℕ → Option ℕ) → Type 0
+  AllBefore n before = (s : ℕ) → IsBelow (on n) s (before s)
 
-  -- while a grant goes on, the place at which a low grant-in stands
-  granting_low : OneChain → (v : GrantWires) (c hi m s : ℕ) (found : Option ℕ) → IsBelow (on m) s found → IsGranting v c hi → segment_of v m found ≡ true → (m ≡ c)
-      × ((t : ℕ) → on m t ≡ true → t < s → t < hi)
-  granting_low one v c hi m s None b i low = (i.bg_only m low, λ t w l. absurd (b t w l))
-  granting_low one v c hi m s (Some p) b i low =
-      (one m c p b.passes (i.out_on p low), λ t w l. omega (arith, b.greatest t w l, i.out_below p low))
-
-  -- while a grant goes on, the place at which a high grant-in stands
-  granting_high : (v : GrantWires) (c hi s : ℕ) (found : Option ℕ) → IsBelow (on c) s found → IsGranting v c hi → segment_of v c found ≡ false → hi < s
-  granting_high v c hi s None b i high = absurd (cc i.bg_low)
-  granting_high v c hi s (Some p) b i high = past p b i high
-    where
-      past : (p : ℕ) → IsGreatest (on c) s p → IsGranting v c hi → v.out p ≡ false → hi < s
-      past p b i high = grind (arith, i.out_each p b.passes)
-
-  held_low_none : (v : GrantWires) (c k lo m s : ℕ) (g : Bool) → ((t : ℕ) → on m t ≡ true → t < s → ⊥) → IsHeld v c k lo g → v.bg m ≡ true → (m ≡ c) × (lo ≤ s) × (s ≤ k)
-  held_low_none v c k lo m s g b i low = grind (arith, i.bg_only m low, b k, i.from_start, i.bg_low)
-
-  held_low_some : OneChain → (v : GrantWires) (c k lo m s : ℕ) (g : Bool) (p : ℕ) → IsGreatest (on m) s p → IsHeld v c k lo g → v.out p ≡ true → (m ≡ c) × (lo ≤ s) × (s ≤ k)
-  held_low_some one v c k lo m s g p b i low = grind (arith, one m c p b.passes (i.out_on p low), b.greatest k, i.out_below p low, i.out_above p low)
-
-  held_low : OneChain → (v : GrantWires) (c k lo m s : ℕ) (g : Bool) (found : Option ℕ) → IsBelow (on m) s found → IsHeld v c k lo g → segment_of v m found ≡ true → (m ≡ c) × (lo ≤ s) × (s ≤ k)
-  held_low one v c k lo m s g None b i low = held_low_none v c k lo m s g b i low
-  held_low one v c k lo m s g (Some p) b i low = held_low_some one v c k lo m s g p b i low
-
-  held_high_some : (v : GrantWires) (c k lo s : ℕ) (g : Bool) (p : ℕ) → IsGreatest (on c) s p → IsHeld v c k lo g → s ≤ k → v.out p ≡ false → (g ≡ false) × ((t : ℕ) → on c t ≡ true → t < s → t < lo)
-  held_high_some v c k lo s g p b i le high =
-      let far : p < lo = grind (arith, i.out_each p b.passes, b.below) in
-      (grind (arith, i.from_start), λ t w l. omega (arith, b.greatest t w l))
-
-  held_high : (v : GrantWires) (c k lo s : ℕ) (g : Bool) (found : Option ℕ) → IsBelow (on c) s found → IsHeld v c k lo g → s ≤ k → segment_of v c found ≡ false → (g ≡ false)
-      × ((t : ℕ) → on c t ≡ true → t < s → t < lo)
-  held_high v c k lo s g None b i le high = (cc i.bg_low, λ t w l. absurd (b t w l))
-  held_high v c k lo s g (Some p) b i le high = held_high_some v c k lo s g p b i le high
-
-  -- the holder is the one slot at which a grant stands
-  held_front : OneChain → (v : GrantWires) (c k lo m s : ℕ) (g : Bool) (found : Option ℕ) → IsAt m s found → segment_of v m found ≡ true → v.out s ≡ false → IsHeld v c k lo g → s ≡ k
-  held_front one v c k lo m s g found b low high i = go (held_low one v c k lo m s g found b.before i low) b.member
-    where
-      go : (m ≡ c) × (lo ≤ s) × (s ≤ k) → on m s ≡ true → s ≡ k
-      go f w = grind (arith, f.0, f.1, f.2, i.out_each s)
-
-  -- once a grant has timed out, none stands anywhere
-  expired_some : OneChain → (v : GrantWires) (c lo m s p : ℕ) → IsGreatest (on m) s p → on m s ≡ true → v.out p ≡ true → v.out s ≡ false → IsExpired v c lo → ⊥
-  expired_some one v c lo m s p b o low high i =
-      let e = one m c p b.passes (i.out_on p low) in
-      let f = i.out_each s (subst (λ x. on x s ≡ true) e o) (omega (arith, i.out_above p low, b.below)) in
-      cc (f, high)
-
-  expired_front : OneChain → (v : GrantWires) (c lo m s : ℕ) (found : Option ℕ) → IsAt m s found → segment_of v m found ≡ true → v.out s ≡ false → IsExpired v c lo → ⊥
-  expired_front one v c lo m s None b low high i = cc (i.bg_high m)
-  expired_front one v c lo m s (Some p) b low high i = expired_some one v c lo m s p b.before b.member low high i
-
-  none_below_0 : (n : ℕ) → low_part (on n) 0 slots ≡ []
-  none_below_0 n = go slots
-    where
-      go : (k : ℕ) → low_part (on n) 0 k ≡ []
-      go zero = refl
-      go (suc k) = skip (on n (suc k)) (go k)
-        where
-          skip : (x : Bool) → low_part (on n) 0 k ≡ [] → (if x && nat_lt (suc k) 0 then suc k ∷ low_part (on n) 0 k else low_part (on n) 0 k) ≡ []
-          skip true e = cc (e, not_less (suc k) 0 (omega arith))
-          skip false e = e
-
-  -- the controller grants level n, at which slot w waits
-  grant_falls_idle : (v : GrantWires) (bg' : ℕ → Bool) (n w : ℕ) → Sets bg' v.bg n true → n < 4 → on n w ≡ true → v.br w ≡ true → IsIdle v
-      → IsGranting (record v { bg = bg'; granted = Some n; taken = false; passers = []; withdrawn = λ _. false }) n 0
-  grant_falls_idle v bg' n w u l m b i = record {
-    few = l;
-    bg_low = grind (arith, u n);
-    bg_only = λ m h. grind (arith, u m, i.bg_high m);
-    out_on = λ s h. grind (arith, i.out_high s);
-    out_below = λ s h. grind (arith, i.out_high s);
-    out_each = λ s x h. absurd (omega arith);
-    free = i.free;
-    wanted = inl (record { waiter = w; waiter_on = m; waiter_above = omega arith; waits = b });
-    granted = refl;
-    untaken = refl;
-    passers = ap quiet (sym (none_below_0 n));
-  }
-
-  pub grant_falls : (v : GrantWires) (bg' : ℕ → Bool) (n w : ℕ) → Sets bg' v.bg n true → n < 4 → on n w ≡ true → v.br w ≡ true → ((m : ℕ) → m < 4 → v.bg m ≡ false)
-      → ((m s : ℕ) → on m s ≡ true → v.busy s ≡ false) → (two ≡ true → (m s : ℕ) → on m s ≡ true → v.out s ≡ false) → Phased v
-      → Phased (record v { bg = bg'; granted = Some n; taken = false; passers = []; withdrawn = λ _. false })
-  grant_falls v bg' n w u l m b high free clear (Idle, i) = (Granting n 0, grant_falls_idle v bg' n w u l m b i)
-  grant_falls v bg' n w u l m b high free clear (Granting c hi, i) = absurd (cc (high c i.few, i.bg_low))
-  grant_falls v bg' n w u l m b high free clear (Held c k lo g, i) = absurd (cc (free c k i.member, i.holds))
-  grant_falls v bg' n w u l m b high free clear (Expired c lo, i) = (
-    Granting n 0,
-    grant_falls_idle v bg' n w u l m b
-        (record { bg_high = i.bg_high; out_high = λ s. is_false (v.out s) (λ h. gone s h); free = i.free }),
-  )
-    where
-      gone : (s : ℕ) → v.out s ≡ true → ⊥
-      gone s h = cc (clear i.version c s (i.out_on s h), h)
-
-  -- the controller takes the grant back
-  grant_rises_held : (v : GrantWires) (bg' : ℕ → Bool) (n c k lo : ℕ) (g : Bool) → Sets bg' v.bg n false → v.bg n ≡ true → IsHeld v c k lo g → IsHeld (record v { bg = bg' }) c k lo false
-  grant_rises_held v bg' n c k lo g u e i = record {
-    member = i.member;
-    bg_low = grind (arith, u c, i.bg_only n);
-    bg_only = λ m h. grind (arith, u m, i.bg_only m);
-    from_start = λ h. absurd (cc);
-    out_on = i.out_on;
-    out_below = i.out_below;
-    out_above = i.out_above;
-    out_each = i.out_each;
-    holds = i.holds;
-    only = i.only;
-  }
-
-  past_end_each : OneChain → (v : GrantWires) (c hi : ℕ) (found : Option ℕ) → IsBelow (on c) (suc slots) found → Within → segment_of v c found ≡ true → IsGranting v c hi → (s : ℕ)
-      → on c s ≡ true → v.out s ≡ true
-  past_end_each one v c hi None b within low i s o = absurd (b s o (omega (arith, (within c s o).1)))
-  past_end_each one v c hi (Some p) b within low i s o = i.out_each s o (omega (arith, b.greatest s o (omega (arith, (within c s o).1)), i.out_below p low))
-
-  expires : OneChain → Within → (v : GrantWires) (bg' : ℕ → Bool) (n c hi : ℕ) (found : Option ℕ) → Sets bg' v.bg n false → v.bg n ≡ true → two ≡ true → IsBelow (on n) (suc slots) found
-      → segment_of v n found ≡ true → IsGranting v c hi → IsExpired (record v { bg = bg' }) c 0
-  expires one within v bg' n c hi found u e two_is b low i = go (i.bg_only n e)
-    where
-      go : n ≡ c → IsExpired (record v { bg = bg' }) c 0
-      go f = record {
-        version = two_is;
-        few = i.few;
-        bg_high = λ m. is_false (bg' m) (λ h. gone m h);
-        out_on = i.out_on;
-        out_above = λ s h. omega arith;
-        out_each = λ s o l. past_end_each one v c hi found (subst (λ x. IsBelow (on x) (suc slots) found) f b) within (subst (λ x. segment_of v x found ≡ true) f low) i s o;
-        free = i.free;
-      }
-        where
-          gone : (m : ℕ) → bg' m ≡ true → ⊥
-          gone m h = grind (arith, u m, i.bg_only m, f)
-
-  -- the bus is busy, or the grant has passed the last slot
-  pub record HasPassed (v : GrantWires) (n : ℕ) (found : Option ℕ) : Type 0 where
-    pub version : two ≡ true
-    pub last : IsBelow (on n) (suc slots) found
-    pub low : segment_of v n found ≡ true
-
-  pub grant_rises : OneChain → Within → (v : GrantWires) (bg' : ℕ → Bool) (n : ℕ) (found : Option ℕ) → Sets bg' v.bg n false → v.bg n ≡ true → ((s : ℕ) × (v.busy s ≡ true)) ⊎ HasPassed v n found
-      → Phased v → Phased (record v { bg = bg' })
-  grant_rises one within v bg' n found u e b (Idle, i) = absurd (cc (i.bg_high n))
-  grant_rises one within v bg' n found u e (inl b) (Granting c hi, i) = absurd (cc (i.free b.0, b.1))
-  grant_rises one within v bg' n found u e (inr b) (Granting c hi, i) = (Expired c 0, expires one within v bg' n c hi found u e b.version b.last b.low i)
-  grant_rises one within v bg' n found u e b (Held c k lo g, i) = (Held c k lo false, grant_rises_held v bg' n c k lo g u e i)
-  grant_rises one within v bg' n found u e b (Expired c lo, i) = absurd (cc (i.bg_high n))
-
-  -- slot s requests the bus
-  asks_wanted : (v : GrantWires) (br' : ℕ → Bool) (s c hi : ℕ) → Sets br' v.br s true → IsWanted v c hi ⊎ IsWithdrawn v c → IsWanted (record v { br = br' }) c hi
-      ⊎ IsWithdrawn (record v { br = br' }) c
-  asks_wanted v br' s c hi u (inl w) = inl (record { waiter = w.waiter; waiter_on = w.waiter_on; waiter_above = w.waiter_above; waits = grind (arith, u w.waiter, w.waits) })
-  asks_wanted v br' s c hi u (inr w) = inr (record { version = w.version; withdrew = w.withdrew })
-
-  pub asks : (v : GrantWires) (br' : ℕ → Bool) (s : ℕ) → Sets br' v.br s true → Phased v → Phased (record v { br = br' })
-  asks v br' s u (Idle, i) = (Idle, record { bg_high = i.bg_high; out_high = i.out_high; free = i.free })
-  asks v br' s u (Granting c hi, i) = (
-    Granting c hi,
-    record {
-      few = i.few;
-      bg_low = i.bg_low;
-      bg_only = i.bg_only;
-      out_on = i.out_on;
-      out_below = i.out_below;
-      out_each = i.out_each;
-      free = i.free;
-      wanted = asks_wanted v br' s c hi u i.wanted;
-      granted = i.granted;
-      untaken = i.untaken;
-      passers = i.passers;
-    },
-  )
-  asks v br' s u (Held c k lo g, i) = (
-    Held c k lo g,
-    record {
-      member = i.member;
-      bg_low = i.bg_low;
-      bg_only = i.bg_only;
-      from_start = i.from_start;
-      out_on = i.out_on;
-      out_below = i.out_below;
-      out_above = i.out_above;
-      out_each = i.out_each;
-      holds = i.holds;
-      only = i.only;
-    },
-  )
-  asks v br' s u (Expired c lo, i) = (Expired c lo, record { version = i.version; few = i.few; bg_high = i.bg_high; out_on = i.out_on; out_above = i.out_above; out_each = i.out_each; free = i.free })
-
-  -- slot s ends its request: it holds the bus, or withdraws
-  withdraws : (v : GrantWires) (br' withdrawn' : ℕ → Bool) (s c hi : ℕ) → two ≡ true → Sets br' v.br s false → (on c s ≡ true → withdrawn' c ≡ true) → (v.withdrawn c ≡ true → withdrawn' c ≡ true)
-      → IsWanted v c hi ⊎ IsWithdrawn v c → IsWanted (record v { br = br'; withdrawn = withdrawn' }) c hi ⊎ IsWithdrawn (record v { br = br'; withdrawn = withdrawn' }) c
-  withdraws v br' withdrawn' s c hi e u a b (inr w) = inr (record { version = e; withdrew = b w.withdrew })
-  withdraws v br' withdrawn' s c hi e u a b (inl w) = ⊎_elim
-      (λ (x : (w.waiter ≡ s) × (br' w.waiter ≡ false)). inr (record { version = e; withdrew = a (subst (λ y. on c y ≡ true) x.0 w.waiter_on) }))
-      (λ (x : (w.waiter ≢ s) × (br' w.waiter ≡ v.br w.waiter)). inl (record { waiter = w.waiter; waiter_on = w.waiter_on; waiter_above = w.waiter_above; waits = x.1 ∙ w.waits }))
-      (u w.waiter)
-
-  pub asks_no_more : (v : GrantWires) (br' withdrawn' : ℕ → Bool) (s : ℕ) → Sets br' v.br s false → (v.busy s ≡ true) ⊎ (two ≡ true) → ((n : ℕ) → v.busy s ≡ false → on n s ≡ true → withdrawn' n
-      ≡ true) → ((n : ℕ) → v.withdrawn n ≡ true → withdrawn' n ≡ true) → Phased v → Phased (record v { br = br'; withdrawn = withdrawn' })
-  asks_no_more v br' withdrawn' s u e a b (Idle, i) = (Idle, record { bg_high = i.bg_high; out_high = i.out_high; free = i.free })
-  asks_no_more v br' withdrawn' s u (inl e) a b (Granting c hi, i) = absurd (cc (i.free s))
-  asks_no_more v br' withdrawn' s u (inr e) a b (Granting c hi, i) = (
-    Granting c hi,
-    record {
-      few = i.few;
-      bg_low = i.bg_low;
-      bg_only = i.bg_only;
-      out_on = i.out_on;
-      out_below = i.out_below;
-      out_each = i.out_each;
-      free = i.free;
-      wanted = withdraws v br' withdrawn' s c hi e u (a c (i.free s)) (b c) i.wanted;
-      granted = i.granted;
-      untaken = i.untaken;
-      passers = i.passers;
-    },
-  )
-  asks_no_more v br' withdrawn' s u e a b (Held c k lo g, i) = (
-    Held c k lo g,
-    record {
-      member = i.member;
-      bg_low = i.bg_low;
-      bg_only = i.bg_only;
-      from_start = i.from_start;
-      out_on = i.out_on;
-      out_below = i.out_below;
-      out_above = i.out_above;
-      out_each = i.out_each;
-      holds = i.holds;
-      only = i.only;
-    },
-  )
-  asks_no_more v br' withdrawn' s u e a b (Expired c lo, i) = (
-    Expired c lo,
-    record {
-      version = i.version;
-      few = i.few;
-      bg_high = i.bg_high;
-      out_on = i.out_on;
-      out_above = i.out_above;
-      out_each =
-          i.out_each;
-      free = i.free;
-    },
-  )
-
-  -- slot s passes the grant on
-  passes_wanted : (v : GrantWires) (out' : ℕ → Bool) (passers' : List (Driver × Bool)) (c hi s : ℕ) → v.br s ≡ false → hi ≤ s → ((t : ℕ) → on c t ≡ true → t < s → t < hi) → IsWanted v c hi
-      ⊎ IsWithdrawn v c → IsWanted (record v { out = out'; passers = passers' }) c (suc s) ⊎ IsWithdrawn (record v { out = out'; passers = passers' }) c
-  passes_wanted v out' passers' c hi s asks above f (inl w) = inl (record {
-    waiter = w.waiter;
-    waiter_on = w.waiter_on;
-    waiter_above = grind (arith, w.waiter_above, f w.waiter w.waiter_on, w.waits);
-    waits = w.waits;
-  })
-  passes_wanted v out' passers' c hi s asks above f (inr w) = inr (record { version = w.version; withdrew = w.withdrew })
-
-  passes_granting : OneChain → Within → (v : GrantWires) (out' : ℕ → Bool) (passers' : List (Driver × Bool)) (c hi m s : ℕ) (found : Option ℕ) → IsAt m s found → Sets out' v.out s true → passers'
-      ≡ (Slot s, false) ∷ v.passers → segment_of v m found ≡ true → v.out s ≡ false → v.br s ≡ false → IsGranting v c hi → IsGranting (record v { out = out'; passers = passers' }) c (suc s)
-  passes_granting one within v out' passers' c hi m s found b u tr low high asks i = go (granting_low one v c hi m s found b.before i low)
-    where
-      go3 : m ≡ c → on c s ≡ true → ((t : ℕ) → on c t ≡ true → t < s → t < hi) → hi ≤ s → IsGranting (record v { out = out'; passers = passers' }) c (suc s)
-      go3 e w f above = record {
-        few = i.few;
-        bg_low = i.bg_low;
-        bg_only = i.bg_only;
-        out_on = λ t h. grind (arith, u t, i.out_on t, w);
-        out_below = λ t h. grind (arith, u t, i.out_below t);
-        out_each = λ t x h. grind (arith, u t, i.out_each t, f t);
-        free = i.free;
-        wanted = passes_wanted v out' passers' c hi s asks above f i.wanted;
-        granted = i.granted;
-        untaken = i.untaken;
-        passers = tr ∙ ap (λ ts. (Slot s, false) ∷ ts) i.passers ∙ sym (ap quiet (more_part (on c) hi s slots w (within c s w).0 (within c s w).1 above f));
-      }
-
-      go2 : m ≡ c → on c s ≡ true → ((t : ℕ) → on c t ≡ true → t < s → t < hi) → IsGranting (record v { out = out'; passers = passers' }) c (suc s)
-      go2 e w f = go3 e w f (⊎_elim (λ (l : s < hi). absurd (cc (i.out_each s w l))) (λ (l : hi ≤ s). l) (cases_lt s hi))
-
-      go : (m ≡ c) × ((t : ℕ) → on m t ≡ true → t < s → t < hi) → IsGranting (record v { out = out'; passers = passers' }) c (suc s)
-      go f = go2 f.0 (subst (λ x. on x s ≡ true) f.0 b.member) (subst (λ x. (t : ℕ) → on x t ≡ true → t < s → t < hi) f.0 f.1)
-
-  pub passes_on : OneChain → Within → (v : GrantWires) (out' : ℕ → Bool) (passers' : List (Driver × Bool)) (m s : ℕ) (found : Option ℕ) → IsAt m s found → Sets out' v.out s true → passers'
-      ≡ (Slot s, false) ∷ v.passers → segment_of v m found ≡ true → v.out s ≡ false → v.br s ≡ false → v.busy s ≡ false → Phased v → Phased (record v { out = out'; passers = passers' })
-  passes_on one within v out' passers' m s found b u tr low high asks free (Idle, i) = absurd (idle_low v m found i low)
-  passes_on one within v out' passers' m s found b u tr low high asks free (Granting c hi, i) = (Granting c (suc s), passes_granting one within v out' passers' c hi m s found b u tr low high asks i)
-  passes_on one within v out' passers' m s found b u tr low high asks free (Held c k lo g, i) =
-      let e = held_front one v c k lo m s g found b low high i in absurd (cc (i.holds, e))
-  passes_on one within v out' passers' m s found b u tr low high asks free (Expired c lo, i) = absurd (expired_front one v c lo m s found b low high i)
-
-  -- the segment of slot s rises after the grant
-  rises_held : OneChain → (v : GrantWires) (out' : ℕ → Bool) (c k lo m s : ℕ) (g : Bool) (found : Option ℕ) → IsAt m s found → Sets out' v.out s false → segment_of v m found ≡ false → v.out s ≡ true
-      → IsHeld v c k lo g → IsHeld (record v { out = out' }) c k (suc s) false
-  rises_held one v out' c k lo m s g found b u high low i = go (one m c s b.member (i.out_on s low))
-    where
-      go2 : (g ≡ false) × ((t : ℕ) → on c t ≡ true → t < s → t < lo) → IsHeld (record v { out = out' }) c k (suc s) false
-      go2 f = record {
-        member = i.member;
-        bg_low = cc (i.bg_low, f.0);
-        bg_only = i.bg_only;
-        from_start = λ h. absurd (cc);
-        out_on = λ t h. grind (arith, u t, i.out_on t);
-        out_below = λ t h. grind (arith, u t, i.out_below t);
-        out_above = λ t h. grind (arith, u t, i.out_above t, i.out_on t, f.1 t);
-        out_each = λ t x l l'. grind (arith, u t, i.out_each t, i.out_above s);
-        holds = i.holds;
-        only = i.only;
-      }
-
-      go : m ≡ c → IsHeld (record v { out = out' }) c k (suc s) false
-      go e = go2 (held_high v c k lo s g found (subst (λ x. IsBelow (on x) s found) e b.before) i (omega (arith, i.out_below s low)) (subst (λ x. segment_of v x found ≡ false) e high))
-
-  rises_granting : OneChain → (v : GrantWires) (c hi m s : ℕ) (found : Option ℕ) → IsAt m s found → segment_of v m found ≡ false → v.out s ≡ true → IsGranting v c hi → ⊥
-  rises_granting one v c hi m s found b high low i = go (one m c s b.member (i.out_on s low))
-    where
-      go : m ≡ c → ⊥
-      go e = omega (arith, granting_high v c hi s found (subst (λ x. IsBelow (on x) s found) e b.before) i (subst (λ x. segment_of v x found ≡ false) e high), i.out_below s low)
-
-  rises_expired : OneChain → (v : GrantWires) (out' : ℕ → Bool) (c lo m s : ℕ) (found : Option ℕ) → IsAt m s found → Sets out' v.out s false → segment_of v m found ≡ false → v.out s ≡ true
-      → IsExpired v c lo → IsExpired (record v { out = out' }) c (suc s)
-  rises_expired one v out' c lo m s found b u high low i = go (one m c s b.member (i.out_on s low))
-    where
-      at : (found : Option ℕ) → IsBelow (on c) s found → segment_of v c found ≡ false → (t : ℕ) → on c t ≡ true → t < s → t < lo
-      at None b high t o l = absurd (b t o l)
-      at (Some p) b high t o l = ⊎_elim (λ (x : p < lo). omega (arith, b.greatest t o l)) (λ (y : lo ≤ p). absurd (cc (i.out_each p b.passes y))) (cases_lt p lo)
-
-      go2 : ((t : ℕ) → on c t ≡ true → t < s → t < lo) → IsExpired (record v { out = out' }) c (suc s)
-      go2 f = record {
-        version = i.version;
-        few = i.few;
-        bg_high = i.bg_high;
-        out_on = λ t h. grind (arith, u t, i.out_on t);
-        out_above = λ t h. grind (arith, u t, i.out_above t, i.out_on t, f t);
-        out_each = λ t x l. grind (arith, u t, i.out_each t, i.out_above s);
-        free = i.free;
-      }
-
-      go : m ≡ c → IsExpired (record v { out = out' }) c (suc s)
-      go e = go2 (at found (subst (λ x. IsBelow (on x) s found) e b.before) (subst (λ x. segment_of v x found ≡ false) e high))
-
-  pub rises : OneChain → (v : GrantWires) (out' : ℕ → Bool) (m s : ℕ) (found : Option ℕ) → IsAt m s found → Sets out' v.out s false → segment_of v m found ≡ false → v.out s ≡ true → Phased v
-      → Phased (record v { out = out' })
-  rises one v out' m s found b u high low (Idle, i) = absurd (cc (i.out_high s))
-  rises one v out' m s found b u high low (Granting c hi, i) = absurd (rises_granting one v c hi m s found b high low i)
-  rises one v out' m s found b u high low (Held c k lo g, i) = (Held c k (suc s) false, rises_held one v out' c k lo m s g found b u high low i)
-  rises one v out' m s found b u high low (Expired c lo, i) = (Expired c (suc s), rises_expired one v out' c lo m s found b u high low i)
-
-  -- slot s takes the bus
-  takes_granting : OneChain → (v : GrantWires) (busy' : ℕ → Bool) (taken' : Bool) (c hi m s : ℕ) (found : Option ℕ) → IsAt m s found → Sets busy' v.busy s true → segment_of v m found ≡ true → v.out s
-      ≡ false → IsGranting v c hi → IsHeld (record v { busy = busy'; taken = taken' }) c s 0 true
-  takes_granting one v busy' taken' c hi m s found b u low high i = go (granting_low one v c hi m s found b.before i low) b.member
-    where
-      go : (m ≡ c) × ((t : ℕ) → on m t ≡ true → t < s → t < hi) → on m s ≡ true → IsHeld (record v { busy = busy'; taken = taken' }) c s 0 true
-      go f w = record {
-        member = grind (arith, f.0, w);
-        bg_low = i.bg_low;
-        bg_only = i.bg_only;
-        from_start = λ h. refl;
-        out_on = i.out_on;
-        out_below = λ t h. grind (arith, i.out_below t, i.out_each s, f.0, w);
-        out_above = λ t h. omega arith;
-        out_each = λ t x l l'. grind (arith, i.out_each t, f.1 t, f.0);
-        holds = grind (arith, u s);
-        only = λ t h. grind (arith, u t, i.free t);
-      }
-
-  pub takes : OneChain → (v : GrantWires) (busy' : ℕ → Bool) (taken' : Bool) (m s : ℕ) (found : Option ℕ) → IsAt m s found → Sets busy' v.busy s true → segment_of v m found ≡ true → v.out s ≡ false
-      → v.busy s ≡ false → Phased v → Phased (record v { busy = busy'; taken = taken' })
-  takes one v busy' taken' m s found b u low high free (Idle, i) = absurd (idle_low v m found i low)
-  takes one v busy' taken' m s found b u low high free (Granting c hi, i) = (Held c s 0 true, takes_granting one v busy' taken' c hi m s found b u low high i)
-  takes one v busy' taken' m s found b u low high free (Held c k lo g, i) =
-      let e = held_front one v c k lo m s g found b low high i in absurd (cc (i.holds, e))
-  takes one v busy' taken' m s found b u low high free (Expired c lo, i) = absurd (expired_front one v c lo m s found b low high i)
-
-  -- slot s gives the bus up, when every segment is high
-  nothing_low : OneChain → (v : GrantWires) (c k lo m s : ℕ) (g : Bool) (found : Option ℕ) → IsAt m s found → segment_of v m found ≡ false → v.busy s ≡ true → IsHeld v c k lo g
-      → ((n : ℕ) → v.bg n ≡ false) × ((t : ℕ) → v.out t ≡ false)
-  nothing_low one v c k lo m s g found b high held i = go (i.only s held)
-    where
-      go3 : (g ≡ false) × ((t : ℕ) → on c t ≡ true → t < k → t < lo) → ((n : ℕ) → v.bg n ≡ false) × ((t : ℕ) → v.out t ≡ false)
-      go3 f = (
-        λ n. is_false (v.bg n) (λ h. cc (i.bg_only n h, i.bg_low, f.0)),
-        λ t. is_false (v.out t) (λ h. omega (arith, f.1 t (i.out_on t h) (i.out_below t h), i.out_above t h)),
-      )
-
-      go2 : s ≡ k → m ≡ c → ((n : ℕ) → v.bg n ≡ false) × ((t : ℕ) → v.out t ≡ false)
-      go2 e e' = go3 (held_high v c k lo k g found (subst (λ x. IsBelow (on c) x found) e (subst (λ x. IsBelow (on x) s found) e' b.before)) i (omega arith)
-          (subst (λ x. segment_of v x found ≡ false) e' high))
-
-      go : s ≡ k → ((n : ℕ) → v.bg n ≡ false) × ((t : ℕ) → v.out t ≡ false)
-      go e = go2 e (one m c s b.member (cc (i.member, e)))
-
-  pub leaves_clear : OneChain → (v : GrantWires) (m s : ℕ) (found : Option ℕ) → IsAt m s found → segment_of v m found ≡ false → v.busy s ≡ true → Phased v → ((n : ℕ) → v.bg n ≡ false)
-      × ((t : ℕ) → v.out t ≡ false)
-  leaves_clear one v m s found b high held (Idle, i) = absurd (cc (i.free s))
-  leaves_clear one v m s found b high held (Granting c hi, i) = absurd (cc (i.free s))
-  leaves_clear one v m s found b high held (Held c k lo g, i) = nothing_low one v c k lo m s g found b high held i
-  leaves_clear one v m s found b high held (Expired c lo, i) = absurd (cc (i.free s))
-
-  -- no other slot holds the bus
-  pub free_after : (v : GrantWires) (busy' : ℕ → Bool) (s : ℕ) → Sets busy' v.busy s false → v.busy s ≡ true → Phased v → (t : ℕ) → busy' t ≡ false
-  free_after v busy' s u held (Idle, i) t = absurd (cc (i.free s))
-  free_after v busy' s u held (Granting c hi, i) t = absurd (cc (i.free s))
-  free_after v busy' s u held (Expired c lo, i) t = absurd (cc (i.free s))
-  free_after v busy' s u held (Held c k lo g, i) t = held_only c k lo g i t
-    where
-      held_only : (c k lo : ℕ) (g : Bool) → IsHeld v c k lo g → (t : ℕ) → busy' t ≡ false
-      held_only c k lo g i t = grind (arith, u t, i.only t, i.only s held)
-
-  pub releases : OneChain → (v : GrantWires) (busy' : ℕ → Bool) (m s : ℕ) (found : Option ℕ) → IsAt m s found → Sets busy' v.busy s false → segment_of v m found ≡ false → v.busy s ≡ true → Phased v
-      → Phased (record v { busy = busy' })
-  releases one v busy' m s found b u high held p =
-      let clear = leaves_clear one v m s found b high held p in
-      (Idle, record { bg_high = clear.0; out_high = clear.1; free = free_after v busy' s u held p })
+  abbrev pub IsLast : ℕ → Option ℕ → Type 0
+  IsLast n last = IsBelow (on n) (suc slots) last
 
   -- a grant stands at slot s
   pub record Stands (v : GrantWires) (n s : ℕ) (found : Option ℕ) : Type 0 where
@@ -563,30 +201,39 @@ module _ (on : ℕ → ℕ → Bool) (slots : ℕ) (two : Bool) where
     pub unpassed : v.out s ≡ false
     pub untaken : v.busy s ≡ false
 
-  pub stands_once : OneChain → (v : GrantWires) (m s n t : ℕ) (at_s at_t : Option ℕ) → Stands v m s at_s → Stands v n t at_t → Phased v → (m ≡ n) × (s ≡ t)
-  stands_once one v m s n t at_s at_t a b (Idle, i) = absurd (idle_low v m at_s i a.low)
-  stands_once one v m s n t at_s at_t a b (Granting c hi, i) = go (granting_low one v c hi m s at_s a.place.before i a.low) (granting_low one v c hi n t at_t b.place.before i b.low) a.place.member
-      b.place.member a.unpassed b.unpassed
-    where
-      go : (m ≡ c) × ((x : ℕ) → on m x ≡ true → x < s → x < hi) → (n ≡ c) × ((x : ℕ) → on n x ≡ true → x < t → x < hi) → on m s ≡ true → on n t ≡ true → v.out s ≡ false → v.out t
-          ≡ false → (m ≡ n) × (s ≡ t)
-      go f f' w w' high high' = grind (arith, f.0, f'.0, f.1 t, f'.1 s, i.out_each s, i.out_each t)
-  stands_once one v m s n t at_s at_t a b (Held c k lo g, i) =
-      let e = held_front one v c k lo m s g at_s a.place a.low a.unpassed i in absurd (cc (i.holds, e, a.untaken))
-  stands_once one v m s n t at_s at_t a b (Expired c lo, i) = absurd (expired_front one v c lo m s at_s a.place a.low a.unpassed i)
+  -- the grant of chain n goes on, and has come to slot s
+  record IsFront (v : GrantWires) (n s : ℕ) : Type 0 where
+    hi : ℕ
+    granting : IsGranting v n hi
+    open granting use *
+    above : hi ≤ s
+    all : (t : ℕ) → on n t ≡ true → t < s → t < hi
 
-  pub stands_while_free : OneChain → (v : GrantWires) (m s x : ℕ) (at_s : Option ℕ) → Stands v m s at_s → v.busy x ≡ true → Phased v → ⊥
-  stands_while_free one v m s x at_s a held (Idle, i) = cc (i.free x)
-  stands_while_free one v m s x at_s a held (Granting c hi, i) = cc (i.free x)
-  stands_while_free one v m s x at_s a held (Held c k lo g, i) =
-      let e = held_front one v c k lo m s g at_s a.place a.low a.unpassed i in cc (i.holds, e, a.untaken)
-  stands_while_free one v m s x at_s a held (Expired c lo, i) = cc (i.free x)
+  -- slot s works chain c, and its input is high
+  record IsCut (v : GrantWires) (c s : ℕ) (found : Option ℕ) : Type 0 where
+    place : IsAt c s found
+    high : segment_of v c found ≡ false
 
-  pub holds_once : (v : GrantWires) (s t : ℕ) → v.busy s ≡ true → v.busy t ≡ true → Phased v → s ≡ t
-  holds_once v s t h h' (Idle, i) = absurd (cc (i.free s))
-  holds_once v s t h h' (Granting c hi, i) = absurd (cc (i.free s))
-  holds_once v s t h h' (Held c k lo g, i) = i.only s h ∙ sym (i.only t h')
-  holds_once v s t h h' (Expired c lo, i) = absurd (cc (i.free s))
+  -- the bus is busy, or the grant has passed the last slot
+  pub record HasPassed (v : GrantWires) (n : ℕ) (found : Option ℕ) : Type 0 where
+    pub version : two ≡ true
+    pub last : IsLast n found
+    pub low : segment_of v n found ≡ true
+
+  -- the slot at which a grant stands, and the board that waits for it
+  pub record Found (v : GrantWires) (n : ℕ) (before : ℕ → Option ℕ) : Type 0 where
+    pub slot : ℕ
+    pub waiter : ℕ
+    pub stands : Stands v n slot (before slot)
+    pub above : slot ≤ waiter
+    pub waiter_on : on n waiter ≡ true
+    pub waits : v.br waiter ≡ true
+
+  -- what a take says about the grant before it
+  pub record Rightful (v : GrantWires) (m k : ℕ) : Type 0 where
+    pub granted : v.granted ≡ Some m
+    pub untaken : v.taken ≡ false
+    pub passers : v.passers ≡ quiet (low_part (on m) k slots)
 
   -- a segment of the chain of level n
   abbrev pub IsPart : ℕ → Option ℕ → Type 0
@@ -599,151 +246,369 @@ module _ (on : ℕ → ℕ → Bool) (slots : ℕ) (two : Bool) where
   Before (Some s) None = ⊥
   Before (Some s) (Some t) = s < t
 
-  granting_chain : OneChain → (v : GrantWires) (c hi n : ℕ) (a : Option ℕ) → IsGranting v c hi → IsPart n a → segment_of v n a ≡ true → n ≡ c
-  granting_chain one v c hi n None i w low = i.bg_only n low
-  granting_chain one v c hi n (Some s) i w low = one n c s w (i.out_on s low)
+  still_wanted : (br br' : ℕ → Bool) (c hi hi' : ℕ) (w : IsWanted br c hi) → hi' ≤ w.waiter → br' w.waiter ≡ true → IsWanted br' c hi'
+  still_wanted br br' c hi hi' w above low = record { waiter = w.waiter; waiter_on = w.waiter_on; waiter_above = above; waits = low }
 
-  held_chain : OneChain → (v : GrantWires) (c k lo : ℕ) (g : Bool) (n : ℕ) (a : Option ℕ) → IsHeld v c k lo g → IsPart n a → segment_of v n a ≡ true → n ≡ c
-  held_chain one v c k lo g n None i w low = i.bg_only n low
-  held_chain one v c k lo g n (Some s) i w low = one n c s w (i.out_on s low)
+  module _ (v : GrantWires) where
+    -- ---- which phase it is
 
-  expired_chain : OneChain → (v : GrantWires) (c lo n : ℕ) (a : Option ℕ) → IsExpired v c lo → IsPart n a → segment_of v n a ≡ true → n ≡ c
-  expired_chain one v c lo n None i w low = absurd (cc (i.bg_high n))
-  expired_chain one v c lo n (Some s) i w low = one n c s w (i.out_on s low)
+    idle_of : NoneGranted v → AllFree v → AllPassed v → Phased v → IsIdle v.bg v.out v.busy
+    idle_of high free clear (Idle, i) = i
+    idle_of high free clear (Granting c hi, i) = absurd (cc (high c i.few, i.bg_low))
+    idle_of high free clear (Held c k lo g, i) = absurd (cc (free c k i.member, i.holds))
+    idle_of high free clear (Expired c lo, i) = record { bg_high = i.bg_high; out_high = λ s. is_false (v.out s) (λ h. cc (clear i.version c s (i.out_on s h), h)); free = i.free }
 
-  pub one_chain_low : OneChain → (v : GrantWires) (m n : ℕ) (a b : Option ℕ) → IsPart m a → IsPart n b → segment_of v m a ≡ true → segment_of v n b ≡ true → Phased v → m ≡ n
-  one_chain_low one v m n a b w w' low low' (Idle, i) = absurd (idle_low v m a i low)
-  one_chain_low one v m n a b w w' low low' (Granting c hi, i) = granting_chain one v c hi m a i w low ∙ sym (granting_chain one v c hi n b i w' low')
-  one_chain_low one v m n a b w w' low low' (Held c k lo g, i) = held_chain one v c k lo g m a i w low ∙ sym (held_chain one v c k lo g n b i w' low')
-  one_chain_low one v m n a b w w' low low' (Expired c lo, i) = expired_chain one v c lo m a i w low ∙ sym (expired_chain one v c lo n b i w' low')
+    -- where level n is granted, its grant goes on
+    same_grant : (n c hi : ℕ) → v.bg n ≡ true → IsGranting v c hi → IsGranting v n hi
+    same_grant n c hi low i = subst (λ x. IsGranting v x hi) (sym (i.bg_only n low)) i
 
-  pub none_between : OneChain → (v : GrantWires) (n : ℕ) (a b c : Option ℕ) → Before a b → Before b c → IsPart n a → IsPart n b → IsPart n c → segment_of v n a ≡ true → segment_of v n c ≡ true
-      → Phased v → segment_of v n b ≡ true
-  none_between one v n None None c l l' w w' x low low' p = absurd l
-  none_between one v n (Some s) None c l l' w w' x low low' p = absurd l
-  none_between one v n a (Some t) None l l' w w' x low low' p = absurd l'
-  none_between one v n a (Some t) (Some u) l l' w w' x low low' (Idle, i) = absurd (idle_low v n a i low)
-  none_between one v n a (Some t) (Some u) l l' w w' x low low' (Granting c hi, i) =
-      i.out_each t (subst (λ y. on y t ≡ true) (granting_chain one v c hi n (Some u) i x low') w') (omega (arith, i.out_below u low'))
-  none_between one v n None (Some t) (Some u) l l' w w' x low low' (Held c k lo g, i) =
-      let e = held_chain one v c k lo g n (Some u) i x low' in
-      i.out_each t (subst (λ y. on y t ≡ true) e w') (omega (arith, i.from_start (sym i.bg_low ∙ subst (λ y. v.bg y ≡ true) e low))) (omega (arith, i.out_below u low'))
-  none_between one v n (Some s) (Some t) (Some u) l l' w w' x low low' (Held c k lo g, i) =
-      i.out_each t (subst (λ y. on y t ≡ true) (held_chain one v c k lo g n (Some u) i x low') w') (omega (arith, i.out_above s low)) (omega (arith, i.out_below u low'))
-  none_between one v n None (Some t) (Some u) l l' w w' x low low' (Expired c lo, i) = absurd (cc (i.bg_high n))
-  none_between one v n (Some s) (Some t) (Some u) l l' w w' x low low' (Expired c lo, i) =
-      i.out_each t (subst (λ y. on y t ≡ true) (expired_chain one v c lo n (Some u) i x low') w') (omega (arith, i.out_above s low))
+    granting_of : AllFree v → (n : ℕ) → v.bg n ≡ true → Phased v → (hi : ℕ) × IsGranting v n hi
+    granting_of free n low (Idle, i) = absurd (cc (i.bg_high n))
+    granting_of free n low (Granting c hi, i) = (hi, same_grant n c hi low i)
+    granting_of free n low (Held c k lo g, i) = absurd (cc (free c k i.member, i.holds))
+    granting_of free n low (Expired c lo, i) = absurd (cc (i.bg_high n))
 
-  pub starts_or_ends : OneChain → (v : GrantWires) (n : ℕ) (a last : Option ℕ) → IsBelow (on n) (suc slots) last → Within → ((m s : ℕ) → on m s ≡ true → v.busy s ≡ false) → IsPart n a
-      → segment_of v n a ≡ true → Phased v → (v.bg n ≡ true) ⊎ ((two ≡ true) × (segment_of v n last ≡ true))
-  starts_or_ends one v n a last b within free w low (Idle, i) = absurd (idle_low v n a i low)
-  starts_or_ends one v n a last b within free w low (Granting c hi, i) = inl (subst (λ y. v.bg y ≡ true) (sym (granting_chain one v c hi n a i w low)) i.bg_low)
-  starts_or_ends one v n a last b within free w low (Held c k lo g, i) = absurd (cc (free c k i.member, i.holds))
-  starts_or_ends one v n a last b within free w low (Expired c lo, i) = inr (i.version, at_end a last b w low)
-    where
-      at_end : (a last : Option ℕ) → IsBelow (on n) (suc slots) last → IsPart n a → segment_of v n a ≡ true → segment_of v n last ≡ true
-      at_end None last b w low = absurd (cc (i.bg_high n))
-      at_end (Some s) None b w low = absurd (b s w (omega (arith, (within n s w).1)))
-      at_end (Some s) (Some p) b w low = i.out_each p (subst (λ y. on y p ≡ true) (one n c s w (i.out_on s low)) b.passes)
-          (omega (arith, b.greatest s w (omega (arith, (within n s w).1)), i.out_above s low))
+    held_of : (s : ℕ) → v.busy s ≡ true → Phased v → (c : ℕ) × (lo : ℕ) × (g : Bool) × IsHeld v.bg v.out v.busy c s lo g
+    held_of s held (Idle, i) = absurd (cc (i.free s))
+    held_of s held (Granting c hi, i) = absurd (cc (i.free s))
+    held_of s held (Held c k lo g, i) = (c, lo, g, subst (λ x. IsHeld v.bg v.out v.busy c x lo g) (sym (i.only s held)) i)
+    held_of s held (Expired c lo, i) = absurd (cc (i.free s))
 
-  -- the slot at which a grant stands, and the board that waits for it
-  pub record Found (v : GrantWires) (n : ℕ) (before : ℕ → Option ℕ) : Type 0 where
-    pub slot : ℕ
-    pub waiter : ℕ
-    pub stands : Stands v n slot (before slot)
-    pub above : slot ≤ waiter
-    pub waiter_on : on n waiter ≡ true
-    pub waits : v.br waiter ≡ true
+    -- ---- the edges
 
-  front_low : (v : GrantWires) (c hi s : ℕ) (found : Option ℕ) → IsBelow (on c) s found → ((t : ℕ) → on c t ≡ true → hi ≤ t → s ≤ t) → IsGranting v c hi → segment_of v c found ≡ true
-  front_low v c hi s None b l i = i.bg_low
-  front_low v c hi s (Some p) b l i = i.out_each p b.passes (⊎_elim (λ (x : p < hi). x) (λ (y : hi ≤ p). omega (arith, l p b.passes y, b.below)) (cases_lt p hi))
+    -- the controller grants level n, at which slot w waits
+    pub grant_falls : (bg' : ℕ → Bool) (n w : ℕ) → Sets bg' v.bg n true → n < 4 → on n w ≡ true → v.br w ≡ true → NoneGranted v → AllFree v → AllPassed v → Phased v
+        → Phased (record v { bg = bg'; granted = Some n; taken = false; passers = []; withdrawn = λ _. false })
+    grant_falls bg' n w u few o waits high free clear p = (Granting n 0, begins (idle_of high free clear p))
+      where
+        begins : IsIdle v.bg v.out v.busy → IsGranting (record v { bg = bg'; granted = Some n; taken = false; passers = []; withdrawn = λ _. false }) n 0
+        begins i = record {
+          begun = record { few = few; bg_low = grind (arith, u n); bg_only = λ m h. grind (arith, u m, i.bg_high m); free = i.free; granted = refl; untaken = refl };
+          reached = record {
+            out_on = λ s h. absurd (cc (i.out_high s));
+            out_below = λ s h. absurd (cc (i.out_high s));
+            out_each = λ s x h. absurd (omega arith);
+            passers = ap quiet (sym (none_part (on n) slots));
+          };
+          due = inl (record { waiter = w; waiter_on = o; waiter_above = omega arith; waits = waits });
+        }
 
-  front_at : (v : GrantWires) (c hi : ℕ) (before : ℕ → Option ℕ) → ((s : ℕ) → IsBelow (on c) s (before s)) → IsGranting v c hi → (w : ℕ) → on c w ≡ true → hi ≤ w → (s : ℕ)
-      × Stands v c s (before s) × (s ≤ w)
-  front_at v c hi before b i w o l = go (least_from (on c) hi w l o)
-    where
-      go : ((s : ℕ) × IsLeast (on c) hi w s) → (s : ℕ) × Stands v c s (before s) × (s ≤ w)
-      go (s, l) = (
-        s,
-        record {
-          place = record { member = l.passes; before = b s };
-          low = front_low v c hi s (before s) (b s) l.least i;
-          unpassed = is_false (v.out s) (λ h. omega (arith, i.out_below s h, l.from));
-          untaken = i.free s;
-        },
-        l.to,
-      )
+    -- the requests change, and a grant that goes on is still due
+    requests_change : (br' withdrawn' : ℕ → Bool) → ((c hi : ℕ) → IsGranting v c hi → IsDue br' withdrawn' c hi) → Phased v → Phased (record v { br = br'; withdrawn = withdrawn' })
+    requests_change br' withdrawn' due (Idle, i) = (Idle, i)
+    requests_change br' withdrawn' due (Granting c hi, i) = (Granting c hi, record { begun = i.begun; reached = i.reached; due = due c hi i })
+    requests_change br' withdrawn' due (Held c k lo g, i) = (Held c k lo g, i)
+    requests_change br' withdrawn' due (Expired c lo, i) = (Expired c lo, i)
 
-  found_front : (v : GrantWires) (c hi : ℕ) (before : ℕ → Option ℕ) → ((s : ℕ) → IsBelow (on c) s (before s)) → IsGranting v c hi → IsWanted v c hi → Found v c before
-  found_front v c hi before b i w =
-      let f = front_at v c hi before b i w.waiter w.waiter_on w.waiter_above in
-      record { slot = f.0; waiter = w.waiter; stands = f.1; above = f.2; waiter_on = w.waiter_on; waits = w.waits }
+    -- slot s requests the bus
+    pub asks : (br' : ℕ → Bool) (s : ℕ) → Sets br' v.br s true → Phased v → Phased (record v { br = br' })
+    asks br' s u p = requests_change br' v.withdrawn (λ c hi i. due c hi i.due) p
+      where
+        due : (c hi : ℕ) → IsDue v.br v.withdrawn c hi → IsDue br' v.withdrawn c hi
+        due c hi (inl w) = inl (still_wanted v.br br' c hi hi w w.waiter_above (grind (arith, u w.waiter, w.waits)))
+        due c hi (inr w) = inr w
 
-  found_or : (v : GrantWires) (c hi : ℕ) (before : ℕ → Option ℕ) → ((s : ℕ) → IsBelow (on c) s (before s)) → IsGranting v c hi → IsWanted v c hi ⊎ IsWithdrawn v c → Found v c before ⊎ IsWithdrawn v c
-  found_or v c hi before b i (inl w) = inl (found_front v c hi before b i w)
-  found_or v c hi before b i (inr w) = inr w
+    -- slot s ends its request: it holds the bus, or withdraws
+    pub asks_no_more : (br' withdrawn' : ℕ → Bool) (s : ℕ) → Sets br' v.br s false → (v.busy s ≡ true) ⊎ (two ≡ true) → ((n : ℕ) → v.busy s ≡ false → on n s ≡ true → withdrawn' n ≡ true)
+        → ((n : ℕ) → v.withdrawn n ≡ true → withdrawn' n ≡ true) → Phased v → Phased (record v { br = br'; withdrawn = withdrawn' })
+    asks_no_more br' withdrawn' s u may mine rest p = requests_change br' withdrawn' (λ c hi i. due c hi (i.free s) may i.due) p
+      where
+        due : (c hi : ℕ) → v.busy s ≡ false → (v.busy s ≡ true) ⊎ (two ≡ true) → IsDue v.br v.withdrawn c hi → IsDue br' withdrawn' c hi
+        due c hi free (inl held) d = absurd (cc (free, held))
+        due c hi free (inr e) (inr w) = inr (record { version = e; withdrew = rest c w.withdrew })
+        due c hi free (inr e) (inl w) = ⊎_elim
+            (λ (x : (w.waiter ≡ s) × (br' w.waiter ≡ false)). inr (record { version = e; withdrew = mine c free (subst (λ y. on c y ≡ true) x.0 w.waiter_on) }))
+            (λ (x : (w.waiter ≢ s) × (br' w.waiter ≡ v.br w.waiter)). inl (still_wanted v.br br' c hi hi w w.waiter_above (x.1 ∙ w.waits)))
+            (u w.waiter)
 
-  pub not_lost : (v : GrantWires) (n : ℕ) (before : ℕ → Option ℕ) → ((s : ℕ) → IsBelow (on n) s (before s)) → ((m s : ℕ) → on m s ≡ true → v.busy s ≡ false) → v.bg n ≡ true → Phased v
-      → Found v n before ⊎ IsWithdrawn v n
-  not_lost v n before b free low (Idle, i) = absurd (cc (i.bg_high n))
-  not_lost v n before b free low (Expired c lo, i) = absurd (cc (i.bg_high n))
-  not_lost v n before b free low (Held c k lo g, i) = absurd (cc (free c k i.member, i.holds))
-  not_lost v n before b free low (Granting c hi, i) =
-      let e = i.bg_only n low in
-      subst (λ y. Found v y before ⊎ IsWithdrawn v y) (sym e) (found_or v c hi before (subst (λ y. (s : ℕ) → IsBelow (on y) s (before s)) e b) i i.wanted)
+    -- ---- an input that is high
 
-  -- in every case it stands at a slot, or has passed the last one
-  stands_or_ends_granting : (v : GrantWires) (c hi : ℕ) (before : ℕ → Option ℕ) (last : Option ℕ) → ((s : ℕ) → IsBelow (on c) s (before s)) → IsBelow (on c) (suc slots) last → IsGranting v c hi
-      → ((s : ℕ) × Stands v c s (before s)) ⊎ (segment_of v c last ≡ true)
-  stands_or_ends_granting v c hi before None b e i = inr i.bg_low
-  stands_or_ends_granting v c hi before (Some q) b e i = ⊎_elim
-      (λ (l : q < hi). inr (i.out_each q e.passes l))
-      (λ (l : hi ≤ q). let f = front_at v c hi before b i q e.passes l in inl (f.0, f.1))
-      (cases_lt q hi)
+    granting_high : (c hi s : ℕ) (found : Option ℕ) → IsCut v c s found → IsGranting v c hi → hi < s
+    granting_high c hi s None b i = absurd (cc (i.bg_low, b.high))
+    granting_high c hi s (Some p) b i = grind (arith, i.out_each p b.place.before.passes, b.place.before.below, b.high)
 
-  pub stands_or_ends : (v : GrantWires) (n : ℕ) (before : ℕ → Option ℕ) (last : Option ℕ) → ((s : ℕ) → IsBelow (on n) s (before s)) → IsBelow (on n) (suc slots) last
-      → ((m s : ℕ) → on m s ≡ true → v.busy s ≡ false) → v.bg n ≡ true → Phased v → ((s : ℕ) × Stands v n s (before s)) ⊎ (segment_of v n last ≡ true)
-  stands_or_ends v n before last b e free low (Idle, i) = absurd (cc (i.bg_high n))
-  stands_or_ends v n before last b e free low (Expired c lo, i) = absurd (cc (i.bg_high n))
-  stands_or_ends v n before last b e free low (Held c k lo g, i) = absurd (cc (free c k i.member, i.holds))
-  stands_or_ends v n before last b e free low (Granting c hi, i) = go c (i.bg_only n low) i
-    where
-      go : (c : ℕ) → n ≡ c → IsGranting v c hi → ((s : ℕ) × Stands v n s (before s)) ⊎ (segment_of v n last ≡ true)
-      go c f i = stands_or_ends_granting v n hi before last b e (subst (λ x. IsGranting v x hi) (sym f) i)
+    held_high : (c k lo s : ℕ) (g : Bool) (found : Option ℕ) → IsCut v c s found → s ≤ k → IsHeld v.bg v.out v.busy c k lo g → (g ≡ false) × ((t : ℕ) → on c t ≡ true → t < s → t < lo)
+    held_high c k lo s g None b le i = (cc (i.bg_low, b.high), λ t w l. absurd (b.place.before t w l))
+    held_high c k lo s g (Some p) b le i =
+        let far : p < lo = grind (arith, i.out_each p b.place.before.passes, b.place.before.below, b.high) in
+        (grind (arith, i.from_start), λ t w l. omega (arith, b.place.before.greatest t w l))
 
-  -- what a take says about the grant before it
-  pub record Rightful (v : GrantWires) (m k : ℕ) : Type 0 where
-    pub granted : v.granted ≡ Some m
-    pub untaken : v.taken ≡ false
-    pub passers : v.passers ≡ quiet (low_part (on m) k slots)
+    expired_high : (c lo s : ℕ) (found : Option ℕ) → IsCut v c s found → IsExpired v.bg v.out v.busy c lo → (t : ℕ) → on c t ≡ true → t < s → t < lo
+    expired_high c lo s None b i t w l = absurd (b.place.before t w l)
+    expired_high c lo s (Some p) b i t w l = let far : p < lo = grind (arith, i.out_each p b.place.before.passes, b.high) in omega (arith, b.place.before.greatest t w l)
 
-  rightful_granting : OneChain → (v : GrantWires) (c hi m s : ℕ) (found : Option ℕ) → IsAt m s found → segment_of v m found ≡ true → v.out s ≡ false → IsGranting v c hi → Rightful v m s
-  rightful_granting one v c hi m s found b low high i = go (granting_low one v c hi m s found b.before i low)
-    where
-      go2 : m ≡ c → on c s ≡ true → ((t : ℕ) → on c t ≡ true → t < s → t < hi) → hi ≤ s → Rightful v m s
-      go2 e w f above = subst (λ y. Rightful v y s) (sym e) (record {
-        granted = i.granted;
-        untaken = i.untaken;
-        passers = i.passers ∙ ap quiet (same_part (on c) hi s slots (λ t x l. same_less t hi s (λ y. omega arith) (f t x)));
-      })
+    -- ---- who holds the bus
 
-      go : (m ≡ c) × ((t : ℕ) → on m t ≡ true → t < s → t < hi) → Rightful v m s
-      go f =
-          let w = subst (λ x. on x s ≡ true) f.0 b.member in
-          go2 f.0 w (subst (λ x. (t : ℕ) → on x t ≡ true → t < s → t < hi) f.0 f.1) (⊎_elim (λ (l : s < hi). absurd (cc (i.out_each s w l))) (λ (l : hi ≤ s). l) (cases_lt s hi))
+    pub holds_once : (s t : ℕ) → v.busy s ≡ true → v.busy t ≡ true → Phased v → s ≡ t
+    holds_once s t a b p = let f = held_of t b p in f.3.only s a
 
-  pub rightful : OneChain → (v : GrantWires) (m s : ℕ) (found : Option ℕ) → IsAt m s found → segment_of v m found ≡ true → v.out s ≡ false → v.busy s ≡ false → Phased v → Rightful v m s
-  rightful one v m s found b low high free (Idle, i) = absurd (idle_low v m found i low)
-  rightful one v m s found b low high free (Granting c hi, i) = rightful_granting one v c hi m s found b low high i
-  rightful one v m s found b low high free (Held c k lo g, i) =
-      let e = held_front one v c k lo m s g found b low high i in absurd (cc (i.holds, e))
-  rightful one v m s found b low high free (Expired c lo, i) = absurd (expired_front one v c lo m s found b low high i)
+    -- no other slot holds the bus
+    pub free_after : (busy' : ℕ → Bool) (s : ℕ) → Sets busy' v.busy s false → v.busy s ≡ true → Phased v → (t : ℕ) → busy' t ≡ false
+    free_after busy' s u held p t = let f = held_of s held p in grind (arith, u t, f.3.only t)
+
+    -- ---- where a grant stands
+
+    front_low : (c hi s : ℕ) (found : Option ℕ) → IsBelow (on c) s found → ((t : ℕ) → on c t ≡ true → hi ≤ t → s ≤ t) → IsGranting v c hi → segment_of v c found ≡ true
+    front_low c hi s None b l i = i.bg_low
+    front_low c hi s (Some p) b l i = i.out_each p b.passes (⊎_elim (λ (x : p < hi). x) (λ (y : hi ≤ p). omega (arith, l p b.passes y, b.below)) (cases_lt p hi))
+
+    module _ (n : ℕ) (before : ℕ → Option ℕ) where
+      front_at : (hi : ℕ) → AllBefore n before → IsGranting v n hi → (w : ℕ) → on n w ≡ true → hi ≤ w → (s : ℕ) × Stands v n s (before s) × (s ≤ w)
+      front_at hi b i w o l = at (least_from (on n) hi w l o)
+        where
+          at : ((s : ℕ) × IsLeast (on n) hi w s) → (s : ℕ) × Stands v n s (before s) × (s ≤ w)
+          at (s, l) = (
+            s,
+            record {
+              place = record { member = l.passes; before = b s };
+              low = front_low n hi s (before s) (b s) l.least i;
+              unpassed = is_false (v.out s) (λ h. omega (arith, i.out_below s h, l.from));
+              untaken = i.free s;
+            },
+            l.to,
+          )
+
+      found_or : (hi : ℕ) → AllBefore n before → IsGranting v n hi → IsDue v.br v.withdrawn n hi → Found v n before ⊎ IsWithdrawn v n
+      found_or hi b i (inl w) =
+          let f = front_at hi b i w.waiter w.waiter_on w.waiter_above in
+          inl (record { slot = f.0; waiter = w.waiter; stands = f.1; above = f.2; waiter_on = w.waiter_on; waits = w.waits })
+      found_or hi b i (inr w) = inr w
+
+      pub not_lost : AllBefore n before → AllFree v → v.bg n ≡ true → Phased v → Found v n before ⊎ IsWithdrawn v n
+      not_lost b free low p = let f = granting_of free n low p in found_or f.0 b f.1 f.1.due
+
+      stands_or_ends_granting : (hi : ℕ) (last : Option ℕ) → AllBefore n before → IsLast n last → IsGranting v n hi → ((s : ℕ) × Stands v n s (before s)) ⊎ (segment_of v n last ≡ true)
+      stands_or_ends_granting hi None b e i = inr i.bg_low
+      stands_or_ends_granting hi (Some q) b e i = ⊎_elim
+          (λ (l : q < hi). inr (i.out_each q e.passes l))
+          (λ (l : hi ≤ q). let f = front_at hi b i q e.passes l in inl (f.0, f.1))
+          (cases_lt q hi)
+
+      -- in every case it stands at a slot, or has passed the last one
+      pub stands_or_ends : (last : Option ℕ) → AllBefore n before → IsLast n last → AllFree v → v.bg n ≡ true → Phased v → ((s : ℕ) × Stands v n s (before s)) ⊎ (segment_of v n last ≡ true)
+      stands_or_ends last b e free low p = let f = granting_of free n low p in stands_or_ends_granting f.0 last b e f.1
 
   -- in the first version every segment is high if a grant may begin
-  pub clear_before : two ≡ false → (v : GrantWires) → ((m : ℕ) → m < 4 → v.bg m ≡ false) → ((m s : ℕ) → on m s ≡ true → v.busy s ≡ false) → Phased v → (s : ℕ) → v.out s ≡ false
-  clear_before e v high free (Idle, i) s = i.out_high s
-  clear_before e v high free (Granting c hi, i) s = absurd (cc (high c i.few, i.bg_low))
-  clear_before e v high free (Held c k lo g, i) s = absurd (cc (free c k i.member, i.holds))
-  clear_before e v high free (Expired c lo, i) s = absurd (cc (i.version, e))
+  pub clear_before : two ≡ false → (v : GrantWires) → NoneGranted v → AllFree v → Phased v → (s : ℕ) → v.out s ≡ false
+  clear_before e v high free p = (idle_of v high free (λ e'. absurd (cc (e, e'))) p).out_high
+
+  module _ (one : OneChain) where
+    -- the controller takes the grant back
+    module _ (within : Within) (v : GrantWires) where
+      passed_each : (n hi : ℕ) (found : Option ℕ) → HasPassed v n found → IsGranting v n hi → (s : ℕ) → on n s ≡ true → v.out s ≡ true
+      passed_each n hi None b i s o = absurd (b.last s o (omega (arith, (within n s o).1)))
+      passed_each n hi (Some p) b i s o = i.out_each s o (omega (arith, b.last.greatest s o (omega (arith, (within n s o).1)), i.out_below p b.low))
+
+      pub grant_rises : (bg' : ℕ → Bool) (n : ℕ) (found : Option ℕ) → Sets bg' v.bg n false → v.bg n ≡ true → ((s : ℕ) × (v.busy s ≡ true)) ⊎ HasPassed v n found → Phased v
+          → Phased (record v { bg = bg' })
+      grant_rises bg' n found u e b (Idle, i) = absurd (cc (i.bg_high n))
+      grant_rises bg' n found u e (inl b) (Granting c hi, i) = absurd (cc (i.free b.0, b.1))
+      grant_rises bg' n found u e (inr b) (Granting c hi, i) = (Expired n 0, expires (same_grant v n c hi e i))
+        where
+          expires : IsGranting v n hi → IsExpired bg' v.out v.busy n 0
+          expires i = record {
+            over = record { version = b.version; few = i.few; bg_high = λ m. is_false (bg' m) (λ h. grind (arith, u m, i.bg_only m)); free = i.free };
+            out_on = i.out_on;
+            out_above = λ s h. omega arith;
+            out_each = λ s o l. passed_each n hi found b i s o;
+          }
+      grant_rises bg' n found u e b (Held c k lo g, i) = (
+        Held c k lo false,
+        record {
+          holder = i.holder;
+          led = record { bg_low = grind (arith, u c, i.bg_only n); bg_only = λ m h. grind (arith, u m, i.bg_only m); from_start = λ h. absurd (cc) };
+          between = i.between;
+        },
+      )
+      grant_rises bg' n found u e b (Expired c lo, i) = absurd (cc (i.bg_high n))
+
+    module _ (v : GrantWires) where
+      -- ---- a grant stands at slot s: it goes on, and has come there
+
+      idle_stands : (m s : ℕ) (found : Option ℕ) → segment_of v m found ≡ true → IsIdle v.bg v.out v.busy → ⊥
+      idle_stands m s None low i = cc (i.bg_high m)
+      idle_stands m s (Some p) low i = cc (i.out_high p)
+
+      granting_stands : (c hi m s : ℕ) (found : Option ℕ) → Stands v m s found → IsGranting v c hi → (m ≡ c) × ((t : ℕ) → on m t ≡ true → t < s → t < hi)
+      granting_stands c hi m s None a i = (i.bg_only m a.low, λ t w l. absurd (a.place.before t w l))
+      granting_stands c hi m s (Some p) a i =
+          (one m c p a.place.before.passes (i.out_on p a.low), λ t w l. omega (arith, a.place.before.greatest t w l, i.out_below p a.low))
+
+      held_stands : (c k lo m s : ℕ) (g : Bool) (found : Option ℕ) → Stands v m s found → IsHeld v.bg v.out v.busy c k lo g → (m ≡ c) × (lo ≤ s) × (s ≤ k)
+      held_stands c k lo m s g None a i = let low : v.bg m ≡ true = a.low in grind (arith, i.bg_only m low, a.place.before k, i.from_start, i.bg_low, i.member)
+      held_stands c k lo m s g (Some p) a i =
+          grind (arith, one m c p a.place.before.passes (i.out_on p a.low), a.place.before.greatest k, a.place.before.below, i.out_below p a.low, i.out_above p a.low, i.member)
+
+      expired_stands : (c lo m s : ℕ) (found : Option ℕ) → Stands v m s found → IsExpired v.bg v.out v.busy c lo → ⊥
+      expired_stands c lo m s None a i = cc (i.bg_high m, a.low)
+      expired_stands c lo m s (Some p) a i =
+          let e = one m c p a.place.before.passes (i.out_on p a.low) in
+          let f = i.out_each s (subst (λ x. on x s ≡ true) e a.place.member) (omega (arith, i.out_above p a.low, a.place.before.below)) in
+          cc (f, a.unpassed)
+
+      front_of : (m s : ℕ) (found : Option ℕ) → Stands v m s found → Phased v → IsFront v m s
+      front_of m s found a (Idle, i) = absurd (idle_stands m s found a.low i)
+      front_of m s found a (Expired c lo, i) = absurd (expired_stands c lo m s found a i)
+      front_of m s found a (Held c k lo g, i) = absurd (no_holder (held_stands c k lo m s g found a i))
+        where
+          no_holder : (m ≡ c) × (lo ≤ s) × (s ≤ k) → ⊥
+          no_holder f = grind (arith, f.0, f.1, f.2, i.out_each s, a.place.member, a.unpassed, a.untaken, i.holds)
+      front_of m s found a (Granting c hi, i) = go (granting_stands c hi m s found a i)
+        where
+          at : IsGranting v m hi → ((t : ℕ) → on m t ≡ true → t < s → t < hi) → IsFront v m s
+          at i all = record { hi = hi; granting = i; above = ⊎_elim (λ (l : s < hi). absurd (cc (i.out_each s a.place.member l, a.unpassed))) (λ (l : hi ≤ s). l) (cases_lt s hi); all = all }
+
+          go : (m ≡ c) × ((t : ℕ) → on m t ≡ true → t < s → t < hi) → IsFront v m s
+          go f = at (subst (λ x. IsGranting v x hi) (sym f.0) i) f.1
+
+      -- slot s takes the bus
+      pub takes : (busy' : ℕ → Bool) (taken' : Bool) (m s : ℕ) (found : Option ℕ) → IsAt m s found → Sets busy' v.busy s true → segment_of v m found ≡ true → v.out s ≡ false → v.busy s ≡ false
+          → Phased v → Phased (record v { busy = busy'; taken = taken' })
+      takes busy' taken' m s found b u low high free p = (Held m s 0 true, holds (front_of m s found (record { place = b; low = low; unpassed = high; untaken = free }) p))
+        where
+          holds : IsFront v m s → IsHeld v.bg v.out busy' m s 0 true
+          holds f = record {
+            holder = record { member = b.member; holds = grind (arith, u s); only = λ t h. grind (arith, u t, f.free t) };
+            led = record { bg_low = f.bg_low; bg_only = f.bg_only; from_start = λ h. refl };
+            between = record { out_on = f.out_on; out_below = λ t h. omega (arith, f.out_below t h, f.above); out_above = λ t h. omega arith; out_each = λ t x l l'. f.out_each t x (f.all t x l') };
+          }
+
+      pub rightful : (m s : ℕ) (found : Option ℕ) → IsAt m s found → segment_of v m found ≡ true → v.out s ≡ false → v.busy s ≡ false → Phased v → Rightful v m s
+      rightful m s found b low high free p = says (front_of m s found (record { place = b; low = low; unpassed = high; untaken = free }) p)
+        where
+          says : IsFront v m s → Rightful v m s
+          says f = record {
+            granted = f.granted;
+            untaken = f.untaken;
+            passers = f.passers ∙ ap quiet (same_part (on m) f.hi s slots (λ t x l. same_less t f.hi s (λ y. omega (arith, f.above)) (f.all t x)));
+          }
+
+      pub stands_once : (m s n t : ℕ) (at_s at_t : Option ℕ) → Stands v m s at_s → Stands v n t at_t → Phased v → (m ≡ n) × (s ≡ t)
+      stands_once m s n t at_s at_t a b p = same (front_of m s at_s a p) (front_of n t at_t b p)
+        where
+          same : IsFront v m s → IsFront v n t → (m ≡ n) × (s ≡ t)
+          same f f' = grind (arith, f'.bg_only m f.bg_low, f.all t, f'.all s, f.out_each t, f'.out_each s, a.place.member, b.place.member, a.unpassed, b.unpassed)
+
+      pub stands_while_free : (m s x : ℕ) (at_s : Option ℕ) → Stands v m s at_s → v.busy x ≡ true → Phased v → ⊥
+      stands_while_free m s x at_s a held p = let f = front_of m s at_s a p in cc (f.free x, held)
+
+      -- ---- the input of slot s is high
+
+      cut_on : (m c s : ℕ) (found : Option ℕ) → IsCut v m s found → on c s ≡ true → IsCut v c s found
+      cut_on m c s found b o = subst (λ x. IsCut v x s found) (one m c s b.place.member o) b
+
+      -- the segment of slot s rises after the grant
+      pub rises : (out' : ℕ → Bool) (m s : ℕ) (found : Option ℕ) → IsAt m s found → Sets out' v.out s false → segment_of v m found ≡ false → v.out s ≡ true → Phased v
+          → Phased (record v { out = out' })
+      rises out' m s found b u high low (Idle, i) = absurd (cc (i.out_high s))
+      rises out' m s found b u high low (Granting c hi, i) =
+          absurd (omega (arith, granting_high v c hi s found (cut_on m c s found (record { place = b; high = high }) (i.out_on s low)) i, i.out_below s low))
+      rises out' m s found b u high low (Held c k lo g, i) =
+          (Held c k (suc s) false, shorter (held_high v c k lo s g found (cut_on m c s found (record { place = b; high = high }) (i.out_on s low)) (omega (arith, i.out_below s low)) i))
+        where
+          shorter : (g ≡ false) × ((t : ℕ) → on c t ≡ true → t < s → t < lo) → IsHeld v.bg out' v.busy c k (suc s) false
+          shorter f = record {
+            holder = i.holder;
+            led = record { bg_low = cc (i.bg_low, f.0); bg_only = i.bg_only; from_start = λ h. absurd (cc) };
+            between = record {
+              out_on = λ t h. grind (arith, u t, i.out_on t);
+              out_below = λ t h. grind (arith, u t, i.out_below t);
+              out_above = λ t h. grind (arith, u t, i.out_above t, i.out_on t, f.1 t);
+              out_each = λ t x l l'. grind (arith, u t, i.out_each t, i.out_above s);
+            };
+          }
+      rises out' m s found b u high low (Expired c lo, i) =
+          (Expired c (suc s), shorter (expired_high v c lo s found (cut_on m c s found (record { place = b; high = high }) (i.out_on s low)) i))
+        where
+          shorter : ((t : ℕ) → on c t ≡ true → t < s → t < lo) → IsExpired v.bg out' v.busy c (suc s)
+          shorter f = record {
+            over = i.over;
+            out_on = λ t h. grind (arith, u t, i.out_on t);
+            out_above = λ t h. grind (arith, u t, i.out_above t, i.out_on t, f t);
+            out_each = λ t x l. grind (arith, u t, i.out_each t, i.out_above s);
+          }
+
+      -- slot s gives the bus up, when every segment is high
+      pub leaves_clear : (m s : ℕ) (found : Option ℕ) → IsAt m s found → segment_of v m found ≡ false → v.busy s ≡ true → Phased v → ((n : ℕ) → v.bg n ≡ false) × ((t : ℕ) → v.out t ≡ false)
+      leaves_clear m s found b high held p = clear (held_of v s held p)
+        where
+          clear : ((c : ℕ) × (lo : ℕ) × (g : Bool) × IsHeld v.bg v.out v.busy c s lo g) → ((n : ℕ) → v.bg n ≡ false) × ((t : ℕ) → v.out t ≡ false)
+          clear (c, lo, g, i) = let f = held_high v c s lo s g found (cut_on m c s found (record { place = b; high = high }) i.member) (omega arith) i in (
+            λ n. is_false (v.bg n) (λ h. cc (i.bg_only n h, i.bg_low, f.0)),
+            λ t. is_false (v.out t) (λ h. omega (arith, f.1 t (i.out_on t h) (i.out_below t h), i.out_above t h)),
+          )
+
+      pub releases : (busy' : ℕ → Bool) (m s : ℕ) (found : Option ℕ) → IsAt m s found → Sets busy' v.busy s false → segment_of v m found ≡ false → v.busy s ≡ true → Phased v
+          → Phased (record v { busy = busy' })
+      releases busy' m s found b u high held p =
+          let clear = leaves_clear m s found b high held p in
+          (Idle, record { bg_high = clear.0; out_high = clear.1; free = free_after v busy' s u held p })
+
+      -- ---- which segments are low together
+
+      -- a low segment is of the chain of the phase
+      low_chain : (n : ℕ) (a : Option ℕ) → IsPart n a → segment_of v n a ≡ true → (p : Phased v) → n ≡ chain_of p.0
+      low_chain n a w low (Idle, i) = absurd (idle_stands n n a low i)
+      low_chain n None w low (Granting c hi, i) = i.bg_only n low
+      low_chain n None w low (Held c k lo g, i) = i.bg_only n low
+      low_chain n None w low (Expired c lo, i) = absurd (cc (i.bg_high n))
+      low_chain n (Some s) w low (Granting c hi, i) = one n c s w (i.out_on s low)
+      low_chain n (Some s) w low (Held c k lo g, i) = one n c s w (i.out_on s low)
+      low_chain n (Some s) w low (Expired c lo, i) = one n c s w (i.out_on s low)
+
+      pub one_chain_low : (m n : ℕ) (a b : Option ℕ) → IsPart m a → IsPart n b → segment_of v m a ≡ true → segment_of v n b ≡ true → Phased v → m ≡ n
+      one_chain_low m n a b w w' low low' p = low_chain m a w low p ∙ sym (low_chain n b w' low' p)
+
+      -- slot t lies between two low segments
+      between_low : (n t u : ℕ) (a : Option ℕ) → Before a (Some t) → t < u → IsPart n a → on n u ≡ true → segment_of v n a ≡ true → v.out u ≡ true → (p : Phased v) → on (chain_of p.0) t ≡ true
+          → v.out t ≡ true
+      between_low n t u a l l' w x low low' (Idle, i) o = absurd (cc (i.out_high u))
+      between_low n t u a l l' w x low low' (Granting c hi, i) o = i.out_each t o (omega (arith, i.out_below u low'))
+      between_low n t u None l l' w x low low' (Held c k lo g, i) o =
+          let e = i.bg_only n low in
+          i.out_each t o (omega (arith, i.from_start (sym i.bg_low ∙ subst (λ y. v.bg y ≡ true) e low))) (omega (arith, i.out_below u low'))
+      between_low n t u (Some s) l l' w x low low' (Held c k lo g, i) o = i.out_each t o (omega (arith, i.out_above s low)) (omega (arith, i.out_below u low'))
+      between_low n t u None l l' w x low low' (Expired c lo, i) o = absurd (cc (i.bg_high n))
+      between_low n t u (Some s) l l' w x low low' (Expired c lo, i) o = i.out_each t o (omega (arith, i.out_above s low))
+
+      pub none_between : (n : ℕ) (a b c : Option ℕ) → Before a b → Before b c → IsPart n a → IsPart n b → IsPart n c → segment_of v n a ≡ true → segment_of v n c ≡ true → Phased v
+          → segment_of v n b ≡ true
+      none_between n None None c l l' w w' x low low' p = absurd l
+      none_between n (Some s) None c l l' w w' x low low' p = absurd l
+      none_between n a (Some t) None l l' w w' x low low' p = absurd l'
+      none_between n a (Some t) (Some u) l l' w w' x low low' p = between_low n t u a l l' w x low low' p (subst (λ y. on y t ≡ true) (low_chain n (Some u) x low' p) w')
+
+      pub starts_or_ends : (n : ℕ) (a last : Option ℕ) → IsLast n last → Within → AllFree v → IsPart n a → segment_of v n a ≡ true → Phased v
+          → (v.bg n ≡ true) ⊎ ((two ≡ true) × (segment_of v n last ≡ true))
+      starts_or_ends n a last b within free w low (Idle, i) = absurd (idle_stands n n a low i)
+      starts_or_ends n a last b within free w low (Granting c hi, i) = inl (subst (λ y. v.bg y ≡ true) (sym (low_chain n a w low (Granting c hi, i))) i.bg_low)
+      starts_or_ends n a last b within free w low (Held c k lo g, i) = absurd (cc (free c k i.member, i.holds))
+      starts_or_ends n a last b within free w low (Expired c lo, i) = inr (i.version, at_end a last b w low)
+        where
+          at_end : (a last : Option ℕ) → IsLast n last → IsPart n a → segment_of v n a ≡ true → segment_of v n last ≡ true
+          at_end None last b w low = absurd (cc (i.bg_high n))
+          at_end (Some s) None b w low = absurd (b s w (omega (arith, (within n s w).1)))
+          at_end (Some s) (Some p) b w low = i.out_each p (subst (λ y. on y p ≡ true) (one n c s w (i.out_on s low)) b.passes)
+              (omega (arith, b.greatest s w (omega (arith, (within n s w).1)), i.out_above s low))
+
+    -- slot s passes the grant on
+    pub passes_on : Within → (v : GrantWires) (out' : ℕ → Bool) (passers' : List (Driver × Bool)) (m s : ℕ) (found : Option ℕ) → IsAt m s found → Sets out' v.out s true
+        → passers' ≡ (Slot s, false) ∷ v.passers → segment_of v m found ≡ true → v.out s ≡ false → v.br s ≡ false → v.busy s ≡ false → Phased v → Phased (record v { out = out'; passers = passers' })
+    passes_on within v out' passers' m s found b u tr low high asks free p =
+        (Granting m (suc s), further (front_of v m s found (record { place = b; low = low; unpassed = high; untaken = free }) p))
+      where
+        due : (hi : ℕ) → ((t : ℕ) → on m t ≡ true → t < s → t < hi) → IsDue v.br v.withdrawn m hi → IsDue v.br v.withdrawn m (suc s)
+        due hi all (inl w) = inl (still_wanted v.br v.br m hi (suc s) w (grind (arith, w.waiter_above, all w.waiter w.waiter_on, w.waits)) w.waits)
+        due hi all (inr w) = inr w
+
+        further : IsFront v m s → IsGranting (record v { out = out'; passers = passers' }) m (suc s)
+        further f = record {
+          begun = f.begun;
+          reached = record {
+            out_on = λ t h. grind (arith, u t, f.out_on t, b.member);
+            out_below = λ t h. grind (arith, u t, f.out_below t, f.above);
+            out_each = λ t x h. grind (arith, u t, f.out_each t, f.all t);
+            passers = tr ∙ ap (λ ts. (Slot s, false) ∷ ts) f.passers ∙ sym (ap quiet (more_part (on m) f.hi s slots b.member (within m s b.member).0 (within m s b.member).1 f.above f.all));
+          };
+          due = due f.hi f.all f.due;
+        }
