@@ -157,6 +157,10 @@ module _ (on master brd : ℕ → Bool) (slots : ℕ) where
   abbrev pub Cycled : CycleWires → (ℕ → Bool) → Type 0
   Cycled v busy = (c : Cyclic) × InCycle v busy c
 
+  -- a data strobe is low
+  abbrev Asks : CycleWires → Type 0
+  Asks v = (s : ℕ) × (g : Bool) × (hi : ℕ) × IsAsking v s g hi
+
   -- every address strobe, or data strobe, of a master is high
   abbrev pub StrobesHigh : CycleWires → Type 0
   StrobesHigh v = (t : ℕ) → master t ≡ true → v.strobe t ≡ false
@@ -263,13 +267,13 @@ module _ (on master brd : ℕ → Bool) (slots : ℕ) where
     module _ (busy : ℕ → Bool) where
       -- ---- which phase it is
 
-      quiet_of : StrobesHigh v → Cycled v busy → IsQuiet v.group v.strobe v.dstrobe v.dtack v.berr busy
+      quiet_of : StrobesHigh v → Cycled v busy → InCycle v busy Quiet
       quiet_of high (Quiet, i) = i
       quiet_of high (Fresh t, i) = absurd (cc (high t i.opened.is_master, i.opened.strobe_low))
       quiet_of high (Asking t g hi, i) = absurd (cc (high t i.opened.is_master, i.opened.strobe_low))
       quiet_of high (Done t, i) = absurd (cc (high t i.opened.is_master, i.opened.strobe_low))
 
-      asking_of : (w : ℕ) → v.dstrobe w ≡ true → Cycled v busy → (m : ℕ) × (g : Bool) × (hi : ℕ) × IsAsking v m g hi
+      asking_of : (w : ℕ) → v.dstrobe w ≡ true → Cycled v busy → Asks v
       asking_of w low (Quiet, i) = absurd (cc (i.dstrobe_high w))
       asking_of w low (Fresh t, i) = absurd (cc (i.dstrobe_high w))
       asking_of w low (Asking t g hi, i) = (t, g, hi, i)
@@ -277,8 +281,8 @@ module _ (on master brd : ℕ → Bool) (slots : ℕ) where
 
       -- ---- the address lines and the strobes
 
-      still_quiet : (group' dtack' : ℕ → Bool) (berr' : Bool) (busy' : ℕ → Bool) (i : IsQuiet v.group v.strobe v.dstrobe v.dtack v.berr busy) → IsAnswer dtack' berr' i.answer
-          → ((t : ℕ) → group' t ≡ true → busy' t ≡ true) → IsQuiet group' v.strobe v.dstrobe dtack' berr' busy'
+      still_quiet : (group' dtack' : ℕ → Bool) (berr' : Bool) (busy' : ℕ → Bool) (i : InCycle v busy Quiet) → IsAnswer dtack' berr' i.answer → ((t : ℕ) → group' t ≡ true → busy' t ≡ true)
+          → IsQuiet group' v.strobe v.dstrobe dtack' berr' busy'
       still_quiet group' dtack' berr' busy' i a b = record { answer = i.answer; answers = a; strobe_high = i.strobe_high; dstrobe_high = i.dstrobe_high; group_busy = b }
 
       -- an address group goes on, or shows something else
@@ -304,40 +308,38 @@ module _ (on master brd : ℕ → Bool) (slots : ℕ) where
       -- a cycle begins
       pub strobe_falls : (strobe' strobed' : ℕ → Bool) (s : ℕ) → OneHolder busy → Sets strobe' v.strobe s true → strobed' s ≡ false → v.group s ≡ true → master s ≡ true → StrobesHigh v
           → v.iack ≡ false → ((t : ℕ) → on t ≡ true → v.iout t ≡ false) → Cycled v busy → Cycled (record v { strobe = strobe'; strobed = strobed' }) busy
-      strobe_falls strobe' strobed' s one u k l m high a o c = (Fresh s, begins (quiet_of high c))
-        where
-          begins : IsQuiet v.group v.strobe v.dstrobe v.dtack v.berr busy → IsFresh (record v { strobe = strobe'; strobed = strobed' }) s
-          begins i = record {
-            answer = i.answer;
-            answers = i.answers;
-            begun = record {
-              opened = record { strobe_low = grind (arith, u s); strobe_only = λ t h. grind (arith, u t, i.strobe_high t); group_only = λ t h. one t s (i.group_busy t h) (i.group_busy s l); is_master = m };
-              group_on = l;
-              dstrobe_high = i.dstrobe_high;
-              unstrobed = k;
-              iack_high = a;
-              iout_high = o;
-            };
-          }
+      strobe_falls strobe' strobed' s one u k l m high a o c =
+          let i = quiet_of high c in
+          let opened : IsOpen strobe' v.group s = record {
+            strobe_low = grind (arith, u s);
+            strobe_only = λ t h. grind (arith, u t, i.strobe_high t);
+            group_only = λ t h. one t s (i.group_busy t h) (i.group_busy s l);
+            is_master = m;
+          } in (
+            Fresh s,
+            record {
+              answer = i.answer;
+              answers = i.answers;
+              begun = record { opened = opened; group_on = l; dstrobe_high = i.dstrobe_high; unstrobed = k; iack_high = a; iout_high = o };
+            },
+          )
 
       -- a cycle ends
       pub strobe_rises : (strobe' : ℕ → Bool) (s : ℕ) → Sets strobe' v.strobe s false → v.strobe s ≡ true → v.group s ≡ false → Cycled v busy → Cycled (record v { strobe = strobe' }) busy
       strobe_rises strobe' s u l e (Quiet, i) = absurd (cc (i.strobe_high s))
       strobe_rises strobe' s u l e (Fresh t, i) = let f = i.opened.strobe_only s l in absurd (cc (i.group_on, f))
       strobe_rises strobe' s u l e (Asking t g hi, i) = let f = i.opened.strobe_only s l in absurd (cc (i.group_on, f))
-      strobe_rises strobe' s u l e (Done t, i) = (Quiet, ends i.opened)
+      strobe_rises strobe' s u l e (Done t, i) = (Quiet, record { answer = i.answer; answers = i.answers; strobe_high = high; dstrobe_high = i.dstrobe_high; group_busy = λ w h. absurd (gone w h) })
         where
-          gone : IsOpen v.strobe v.group t → (w : ℕ) → v.group w ≡ true → ⊥
-          gone o w h = let f = o.group_only w h in let f' = o.strobe_only s l in cc (f, f', e, h)
+          high : (w : ℕ) → strobe' w ≡ false
+          high w = grind (arith, u w, i.opened.strobe_only w, i.opened.strobe_only s l)
 
-          ends : IsOpen v.strobe v.group t → IsQuiet v.group strobe' v.dstrobe v.dtack v.berr busy
-          ends o = record {
-            answer = i.answer;
-            answers = i.answers;
-            strobe_high = λ w. grind (arith, u w, o.strobe_only w, o.strobe_only s l);
-            dstrobe_high = i.dstrobe_high;
-            group_busy = λ w h. absurd (gone o w h);
-          }
+          gone : (w : ℕ) → v.group w ≡ true → ⊥
+          gone w h = let f = i.opened.group_only w h in let f' = i.opened.strobe_only s l in cc (f, f', e, h)
+
+      -- no board answers, and what answers is known
+      unheard : BoardsSilent v → (berr' : Bool) (a a' : Answer) → (berr' ≡ true → a' ≡ Error) → IsAnswer v.dtack v.berr a → IsAnswer v.dtack berr' a'
+      unheard quiet berr' a a' e i = record { dtack_by = λ t h. absurd (cc (quiet t (i.boards t h))); berr_by = e; boards = i.boards }
 
       -- the data strobe falls
       pub dstrobe_falls : (dstrobe' strobed' : ℕ → Bool) (s : ℕ) → Sets dstrobe' v.dstrobe s true → strobed' s ≡ true → v.strobe s ≡ true → v.dstrobe s ≡ false → v.strobed s ≡ false
@@ -349,12 +351,7 @@ module _ (on master brd : ℕ → Bool) (slots : ℕ) where
         where
           asks : s ≡ t → IsAsking (record v { dstrobe = dstrobe'; strobed = strobed' }) t false 0
           asks e = record {
-            given = record {
-              answer = Silent;
-              answers = record { dtack_by = λ w h. absurd (cc (quiet w (i.answers.boards w h))); berr_by = λ h. absurd (cc); boards = i.answers.boards };
-              dtack_low = λ w h. absurd (cc);
-              berr_low = λ h. absurd (cc);
-            };
+            given = record { answer = Silent; answers = unheard quiet v.berr i.answer Silent (λ h. absurd (cc)) i.answers; dtack_low = λ w h. absurd (cc); berr_low = λ h. absurd (cc) };
             strobed = record {
               opened = i.opened;
               group_on = i.group_on;
@@ -376,60 +373,51 @@ module _ (on master brd : ℕ → Bool) (slots : ℕ) where
 
       -- the data strobe rises
       pub dstrobe_rises : (dstrobe' : ℕ → Bool) (s : ℕ) → Sets dstrobe' v.dstrobe s false → v.dstrobe s ≡ true → Cycled v busy → Cycled (record v { dstrobe = dstrobe' }) busy
-      dstrobe_rises dstrobe' s u l c = over (asking_of s l c)
-        where
-          over : ((m : ℕ) × (g : Bool) × (hi : ℕ) × IsAsking v m g hi) → Cycled (record v { dstrobe = dstrobe' }) busy
-          over (m, g, hi, i) =
-              let high : (w : ℕ) → dstrobe' w ≡ false = λ w. grind (arith, u w, i.dstrobe_only w, i.dstrobe_only s l) in
-              (Done m, record { answer = i.answer; answers = i.answers; ended = record { opened = i.opened; dstrobe_high = high; was_strobed = i.was_strobed } })
+      dstrobe_rises dstrobe' s u l c =
+          let x = asking_of s l c in
+          let i = x.3 in
+          let high : (w : ℕ) → dstrobe' w ≡ false = λ w. grind (arith, u w, i.dstrobe_only w, i.dstrobe_only s l) in
+          (Done x.0, record { answer = i.answer; answers = i.answers; ended = record { opened = i.opened; dstrobe_high = high; was_strobed = i.was_strobed } })
 
       -- ---- the answers
 
       -- a board answers
       pub dtack_falls : (dtack' : ℕ → Bool) (answered' : Bool) (s w : ℕ) (found : Option ℕ) → Sets dtack' v.dtack s true → v.dtack s ≡ false → brd s ≡ true → v.dstrobe w ≡ true
           → IsAsked v v.shown s found → Cycled v busy → Cycled (record v { dtack = dtack'; answered = answered' }) busy
-      dtack_falls dtack' answered' s w found u d b l a c = answered (asking_of w l c)
+      dtack_falls dtack' answered' s w found u d b l a c =
+          let x = asking_of w l c in
+          let i = x.3 in
+          let can = can_answer x.0 s x.1 x.2 v.shown found a i in
+          let e = silent x.0 s x.1 x.2 d b can i in (
+            Asking x.0 x.1 x.2,
+            record {
+              given = record { answer = By s; answers = by i.answer e i.answers; dtack_low = λ t h. let f : s ≡ t = cc in grind (arith, u t, f); berr_low = λ h. absurd (cc) };
+              strobed = i.strobed;
+              reached = i.reached;
+              justified = can;
+              unanswered = λ h h'. absurd (cc);
+            },
+          )
         where
-          by : (a : Answer) → a ≡ Silent → IsAnswer v.dtack v.berr a → (t : ℕ) → dtack' t ≡ true → By s ≡ By t
-          by a e i t h = ⊎_elim (λ (x : (t ≡ s) × (dtack' t ≡ true)). ap By (sym x.0)) (λ (x : (t ≢ s) × (dtack' t ≡ v.dtack t)). absurd (cc (i.dtack_by t (sym x.1 ∙ h), e))) (u t)
-
-          answered : ((m : ℕ) × (g : Bool) × (hi : ℕ) × IsAsking v m g hi) → Cycled (record v { dtack = dtack'; answered = answered' }) busy
-          answered (m, g, hi, i) =
-              let c = can_answer m s g hi v.shown found a i in
-              let e = silent m s g hi d b c i in (
-                Asking m g hi,
-                record {
-                  given = record {
-                    answer = By s;
-                    answers = record { dtack_by = by i.answer e i.answers; berr_by = λ h. absurd (cc (i.answers.berr_by h, e)); boards = λ t h. grind (arith, u t, i.answers.boards t, b) };
-                    dtack_low = λ t h. let f : s ≡ t = cc in grind (arith, u t, f);
-                    berr_low = λ h. absurd (cc);
-                  };
-                  strobed = i.strobed;
-                  reached = i.reached;
-                  justified = c;
-                  unanswered = λ h h'. absurd (cc);
-                },
-              )
+          by : (a : Answer) → a ≡ Silent → IsAnswer v.dtack v.berr a → IsAnswer dtack' v.berr (By s)
+          by a e i = record {
+            dtack_by = λ t h. ⊎_elim (λ (x : (t ≡ s) × (dtack' t ≡ true)). ap By (sym x.0)) (λ (x : (t ≢ s) × (dtack' t ≡ v.dtack t)). absurd (cc (i.dtack_by t (sym x.1 ∙ h), e))) (u t);
+            berr_by = λ h. absurd (cc (i.berr_by h, e));
+            boards = λ t h. grind (arith, u t, i.boards t, b);
+          }
 
       -- the bus timer ends a cycle
       pub berr_falls : (w : ℕ) (found : Option ℕ) → ((t : ℕ) → on t ≡ true → t ≤ slots) → BoardsSilent v → v.dstrobe w ≡ true → IsUnanswerable v v.shown found → Cycled v busy
           → Cycled (record v { berr = true }) busy
-      berr_falls w found within quiet l a c = failed (asking_of w l c)
-        where
-          failed : ((m : ℕ) × (g : Bool) × (hi : ℕ) × IsAsking v m g hi) → Cycled (record v { berr = true }) busy
-          failed (m, g, hi, i) = (
-            Asking m g hi,
+      berr_falls w found within quiet l a c =
+          let x = asking_of w l c in
+          let i = x.3 in (
+            Asking x.0 x.1 x.2,
             record {
-              given = record {
-                answer = Error;
-                answers = record { dtack_by = λ t h. absurd (cc (quiet t (i.answers.boards t h))); berr_by = λ h. refl; boards = i.answers.boards };
-                dtack_low = λ t h. absurd (cc);
-                berr_low = λ h. refl;
-              };
+              given = record { answer = Error; answers = unheard quiet true i.answer Error (λ h. refl) i.answers; dtack_low = λ t h. absurd (cc); berr_low = λ h. refl };
               strobed = i.strobed;
               reached = i.reached;
-              justified = none_can m g hi v.shown found within a i;
+              justified = none_can x.0 x.1 x.2 v.shown found within a i;
               unanswered = λ h h'. absurd (cc);
             },
           )
@@ -456,23 +444,23 @@ module _ (on master brd : ℕ → Bool) (slots : ℕ) where
       -- the acknowledge chain begins
       pub iack_falls : (w : ℕ) → v.iack ≡ false → is_acknowledge v.shown ≡ true → v.dstrobe w ≡ true → Cycled v busy
           → Cycled (record v { iack = true; acknowledged = v.shown; answered = false; passers = [] }) busy
-      iack_falls w h a l c = begins (asking_of w l c)
-        where
-          begins : ((m : ℕ) × (g : Bool) × (hi : ℕ) × IsAsking v m g hi) → Cycled (record v { iack = true; acknowledged = v.shown; answered = false; passers = [] }) busy
-          begins (m, g, hi, i) = (
-            Asking m true 0,
+      iack_falls w h a l c =
+          let x = asking_of w l c in
+          let i = x.3 in
+          let low = sym i.iack_is ∙ h in (
+            Asking x.0 true 0,
             record {
               given = i.given;
               strobed = i.strobed;
               reached = record {
                 iack_is = refl;
                 from_start = λ _. refl;
-                iout_below = λ t o l. omega (arith, i.iout_below t o l, i.from_start (sym i.iack_is ∙ h));
+                iout_below = λ t o l. omega (arith, i.iout_below t o l, i.from_start low);
                 iout_each = λ t o l. absurd (omega arith);
                 acknowledged = λ _. refl;
                 passers = λ _. ap (unasked v.shown) (sym (none_part on slots));
               };
-              justified = subst (λ x. Justified v.shown true 0 x) (sym (silent_before v.shown g hi i.answer a (sym i.iack_is ∙ h) i.justified)) tt;
+              justified = subst (λ x. Justified v.shown true 0 x) (sym (silent_before v.shown x.1 x.2 i.answer a low i.justified)) tt;
               unanswered = λ _ _. refl;
             },
           )
@@ -486,7 +474,7 @@ module _ (on master brd : ℕ → Bool) (slots : ℕ) where
 
       -- ---- who holds the bus
 
-      holders_change : (busy' : ℕ → Bool) → (IsQuiet v.group v.strobe v.dstrobe v.dtack v.berr busy → (t : ℕ) → v.group t ≡ true → busy' t ≡ true) → Cycled v busy → Cycled v busy'
+      holders_change : (busy' : ℕ → Bool) → (InCycle v busy Quiet → (t : ℕ) → v.group t ≡ true → busy' t ≡ true) → Cycled v busy → Cycled v busy'
       holders_change busy' b (Quiet, i) = (Quiet, still_quiet v.group v.dtack v.berr busy' i i.answers (b i))
       holders_change busy' b (Fresh t, i) = (Fresh t, i)
       holders_change busy' b (Asking t g hi, i) = (Asking t g hi, i)
@@ -525,13 +513,11 @@ module _ (on master brd : ℕ → Bool) (slots : ℕ) where
       module _ (s w level : ℕ) (found : Option ℕ) (sh : v.shown ≡ Some (Acknowledge level)) (o : on s ≡ true) (b : brd s ≡ true) (d : v.dtack s ≡ false) (f : IsBelow on s found)
           (high : v.iout s ≡ false) (low : iack_before v found ≡ true) (l : v.dstrobe w ≡ true) (c : Cycled v busy) where
         comes : Reaches v s
-        comes = at (asking_of w l c)
-          where
-            at : ((m : ℕ) × (g : Bool) × (hi : ℕ) × IsAsking v m g hi) → Reaches v s
-            at (m, g, hi, i) =
-                let p = front m s g hi found o f high low i in
-                let a : CanAnswer v.shown g hi s = subst (λ x. CanAnswer x g hi s) (sym sh) (o, p.low, p.above, p.all) in
-                record { owner = m; g = g; hi = hi; asking = i; place = p; quiet = silent m s g hi d b a i }
+        comes =
+            let x = asking_of w l c in
+            let p = front x.0 s x.1 x.2 found o f high low x.3 in
+            let can : CanAnswer v.shown x.1 x.2 s = subst (λ y. CanAnswer y x.1 x.2 s) (sym sh) (o, p.low, p.above, p.all) in
+            record { owner = x.0; g = x.1; hi = x.2; asking = x.3; place = p; quiet = silent x.0 s x.1 x.2 d b can x.3 }
 
         pub rightful_answer : RightfulAnswer v s
         rightful_answer =
@@ -546,10 +532,8 @@ module _ (on master brd : ℕ → Bool) (slots : ℕ) where
   pub iout_falls : ((t : ℕ) → on t ≡ true → (1 ≤ t) × (t ≤ slots)) → (v : CycleWires) (busy : ℕ → Bool) (iout' : ℕ → Bool) (passers' : List (Driver × Option Cycle × Bool)) (s w level : ℕ)
       (found : Option ℕ) → Sets iout' v.iout s true → passers' ≡ (Slot s, v.shown, false) ∷ v.passers → v.shown ≡ Some (Acknowledge level) → on s ≡ true → brd s ≡ true → v.dtack s ≡ false
       → IsBelow on s found → v.iout s ≡ false → iack_before v found ≡ true → v.dstrobe w ≡ true → Cycled v busy → Cycled (record v { iout = iout'; passers = passers' }) busy
-  iout_falls within v busy iout' passers' s w level found u tr sh o b d f high low l c = passed (comes v busy s w level found sh o b d f high low l c)
-    where
-      passed : Reaches v s → Cycled (record v { iout = iout'; passers = passers' }) busy
-      passed r = (
+  iout_falls within v busy iout' passers' s w level found u tr sh o b d f high low l c =
+      let r = comes v busy s w level found sh o b d f high low l c in (
         Asking r.owner r.g (suc s),
         record {
           given = r.given;

@@ -279,19 +279,20 @@ module _ (on : ℕ → ℕ → Bool) (slots : ℕ) (two : Bool) where
     -- the controller grants level n, at which slot w waits
     pub grant_falls : (bg' : ℕ → Bool) (n w : ℕ) → Sets bg' v.bg n true → n < 4 → on n w ≡ true → v.br w ≡ true → NoneGranted v → AllFree v → AllPassed v → Phased v
         → Phased (record v { bg = bg'; granted = Some n; taken = false; passers = []; withdrawn = λ _. false })
-    grant_falls bg' n w u few o waits high free clear p = (Granting n 0, begins (idle_of high free clear p))
-      where
-        begins : IsIdle v.bg v.out v.busy → IsGranting (record v { bg = bg'; granted = Some n; taken = false; passers = []; withdrawn = λ _. false }) n 0
-        begins i = record {
-          begun = record { few = few; bg_low = grind (arith, u n); bg_only = λ m h. grind (arith, u m, i.bg_high m); free = i.free; granted = refl; untaken = refl };
-          reached = record {
-            out_on = λ s h. absurd (cc (i.out_high s));
-            out_below = λ s h. absurd (cc (i.out_high s));
-            out_each = λ s x h. absurd (omega arith);
-            passers = ap quiet (sym (none_part (on n) slots));
-          };
-          due = inl (record { waiter = w; waiter_on = o; waiter_above = omega arith; waits = waits });
-        }
+    grant_falls bg' n w u few o waits high free clear p =
+        let i = idle_of high free clear p in (
+          Granting n 0,
+          record {
+            begun = record { few = few; bg_low = grind (arith, u n); bg_only = λ m h. grind (arith, u m, i.bg_high m); free = i.free; granted = refl; untaken = refl };
+            reached = record {
+              out_on = λ s h. absurd (cc (i.out_high s));
+              out_below = λ s h. absurd (cc (i.out_high s));
+              out_each = λ s x h. absurd (omega arith);
+              passers = ap quiet (sym (none_part (on n) slots));
+            };
+            due = inl (record { waiter = w; waiter_on = o; waiter_above = omega arith; waits = waits });
+          },
+        )
 
     -- the requests change, and a grant that goes on is still due
     requests_change : (br' withdrawn' : ℕ → Bool) → ((c hi : ℕ) → IsGranting v c hi → IsDue br' withdrawn' c hi) → Phased v → Phased (record v { br = br'; withdrawn = withdrawn' })
@@ -403,15 +404,11 @@ module _ (on : ℕ → ℕ → Bool) (slots : ℕ) (two : Bool) where
           → Phased (record v { bg = bg' })
       grant_rises bg' n found u e b (Idle, i) = absurd (cc (i.bg_high n))
       grant_rises bg' n found u e (inl b) (Granting c hi, i) = absurd (cc (i.free b.0, b.1))
-      grant_rises bg' n found u e (inr b) (Granting c hi, i) = (Expired n 0, expires (same_grant v n c hi e i))
-        where
-          expires : IsGranting v n hi → IsExpired bg' v.out v.busy n 0
-          expires i = record {
-            over = record { version = b.version; few = i.few; bg_high = λ m. is_false (bg' m) (λ h. grind (arith, u m, i.bg_only m)); free = i.free };
-            out_on = i.out_on;
-            out_above = λ s h. omega arith;
-            out_each = λ s o l. passed_each n hi found b i s o;
-          }
+      grant_rises bg' n found u e (inr b) (Granting c hi, i) =
+          let f = same_grant v n c hi e i in
+          let high : (m : ℕ) → bg' m ≡ false = λ m. is_false (bg' m) (λ h. grind (arith, u m, f.bg_only m)) in
+          let over : IsOver bg' v.busy n = record { version = b.version; few = f.few; bg_high = high; free = f.free } in
+          (Expired n 0, record { over = over; out_on = f.out_on; out_above = λ s h. omega arith; out_each = λ s o l. passed_each n hi found b f s o })
       grant_rises bg' n found u e b (Held c k lo g, i) = (
         Held c k lo false,
         record {
@@ -464,76 +461,73 @@ module _ (on : ℕ → ℕ → Bool) (slots : ℕ) (two : Bool) where
       -- slot s takes the bus
       pub takes : (busy' : ℕ → Bool) (taken' : Bool) (m s : ℕ) (found : Option ℕ) → IsAt m s found → Sets busy' v.busy s true → segment_of v m found ≡ true → v.out s ≡ false → v.busy s ≡ false
           → Phased v → Phased (record v { busy = busy'; taken = taken' })
-      takes busy' taken' m s found b u low high free p = (Held m s 0 true, holds (front_of m s found (record { place = b; low = low; unpassed = high; untaken = free }) p))
-        where
-          holds : IsFront v m s → IsHeld v.bg v.out busy' m s 0 true
-          holds f = record {
-            holder = record { member = b.member; holds = grind (arith, u s); only = λ t h. grind (arith, u t, f.free t) };
-            led = record { bg_low = f.bg_low; bg_only = f.bg_only; from_start = λ h. refl };
-            between = record { out_on = f.out_on; out_below = λ t h. omega (arith, f.out_below t h, f.above); out_above = λ t h. omega arith; out_each = λ t x l l'. f.out_each t x (f.all t x l') };
-          }
+      takes busy' taken' m s found b u low high free p =
+          let f = front_of m s found (record { place = b; low = low; unpassed = high; untaken = free }) p in (
+            Held m s 0 true,
+            record {
+              holder = record { member = b.member; holds = grind (arith, u s); only = λ t h. grind (arith, u t, f.free t) };
+              led = record { bg_low = f.bg_low; bg_only = f.bg_only; from_start = λ h. refl };
+              between = record { out_on = f.out_on; out_below = λ t h. omega (arith, f.out_below t h, f.above); out_above = λ t h. omega arith; out_each = λ t x l l'. f.out_each t x (f.all t x l') };
+            },
+          )
 
       pub rightful : (m s : ℕ) (found : Option ℕ) → IsAt m s found → segment_of v m found ≡ true → v.out s ≡ false → v.busy s ≡ false → Phased v → Rightful v m s
-      rightful m s found b low high free p = says (front_of m s found (record { place = b; low = low; unpassed = high; untaken = free }) p)
-        where
-          says : IsFront v m s → Rightful v m s
-          says f = record {
-            granted = f.granted;
-            untaken = f.untaken;
-            passers = f.passers ∙ ap quiet (same_part (on m) f.hi s slots (λ t x l. same_less t f.hi s (λ y. omega (arith, f.above)) (f.all t x)));
-          }
+      rightful m s found b low high free p =
+          let f = front_of m s found (record { place = b; low = low; unpassed = high; untaken = free }) p in
+          let same = same_part (on m) f.hi s slots (λ t x l. same_less t f.hi s (λ y. omega (arith, f.above)) (f.all t x)) in
+          record { granted = f.granted; untaken = f.untaken; passers = f.passers ∙ ap quiet same }
 
       pub stands_once : (m s n t : ℕ) (at_s at_t : Option ℕ) → Stands v m s at_s → Stands v n t at_t → Phased v → (m ≡ n) × (s ≡ t)
-      stands_once m s n t at_s at_t a b p = same (front_of m s at_s a p) (front_of n t at_t b p)
-        where
-          same : IsFront v m s → IsFront v n t → (m ≡ n) × (s ≡ t)
-          same f f' = grind (arith, f'.bg_only m f.bg_low, f.all t, f'.all s, f.out_each t, f'.out_each s, a.place.member, b.place.member, a.unpassed, b.unpassed)
+      stands_once m s n t at_s at_t a b p =
+          let f = front_of m s at_s a p in
+          let f' = front_of n t at_t b p in
+          grind (arith, f'.bg_only m f.bg_low, f.all t, f'.all s, f.out_each t, f'.out_each s, a.place.member, b.place.member, a.unpassed, b.unpassed)
 
       pub stands_while_free : (m s x : ℕ) (at_s : Option ℕ) → Stands v m s at_s → v.busy x ≡ true → Phased v → ⊥
       stands_while_free m s x at_s a held p = let f = front_of m s at_s a p in cc (f.free x, held)
 
       -- ---- the input of slot s is high
 
-      cut_on : (m c s : ℕ) (found : Option ℕ) → IsCut v m s found → on c s ≡ true → IsCut v c s found
-      cut_on m c s found b o = subst (λ x. IsCut v x s found) (one m c s b.place.member o) b
+      cut_on : (m c s : ℕ) (found : Option ℕ) → IsAt m s found → segment_of v m found ≡ false → on c s ≡ true → IsCut v c s found
+      cut_on m c s found b high o = subst (λ x. IsCut v x s found) (one m c s b.member o) (record { place = b; high = high })
 
       -- the segment of slot s rises after the grant
       pub rises : (out' : ℕ → Bool) (m s : ℕ) (found : Option ℕ) → IsAt m s found → Sets out' v.out s false → segment_of v m found ≡ false → v.out s ≡ true → Phased v
           → Phased (record v { out = out' })
       rises out' m s found b u high low (Idle, i) = absurd (cc (i.out_high s))
       rises out' m s found b u high low (Granting c hi, i) =
-          absurd (omega (arith, granting_high v c hi s found (cut_on m c s found (record { place = b; high = high }) (i.out_on s low)) i, i.out_below s low))
+          absurd (omega (arith, granting_high v c hi s found (cut_on m c s found b high (i.out_on s low)) i, i.out_below s low))
       rises out' m s found b u high low (Held c k lo g, i) =
-          (Held c k (suc s) false, shorter (held_high v c k lo s g found (cut_on m c s found (record { place = b; high = high }) (i.out_on s low)) (omega (arith, i.out_below s low)) i))
-        where
-          shorter : (g ≡ false) × ((t : ℕ) → on c t ≡ true → t < s → t < lo) → IsHeld v.bg out' v.busy c k (suc s) false
-          shorter f = record {
-            holder = i.holder;
-            led = record { bg_low = cc (i.bg_low, f.0); bg_only = i.bg_only; from_start = λ h. absurd (cc) };
-            between = record {
-              out_on = λ t h. grind (arith, u t, i.out_on t);
-              out_below = λ t h. grind (arith, u t, i.out_below t);
-              out_above = λ t h. grind (arith, u t, i.out_above t, i.out_on t, f.1 t);
-              out_each = λ t x l l'. grind (arith, u t, i.out_each t, i.out_above s);
-            };
-          }
+          let f = held_high v c k lo s g found (cut_on m c s found b high (i.out_on s low)) (omega (arith, i.out_below s low)) i in (
+            Held c k (suc s) false,
+            record {
+              holder = i.holder;
+              led = record { bg_low = cc (i.bg_low, f.0); bg_only = i.bg_only; from_start = λ h. absurd (cc) };
+              between = record {
+                out_on = λ t h. grind (arith, u t, i.out_on t);
+                out_below = λ t h. grind (arith, u t, i.out_below t);
+                out_above = λ t h. grind (arith, u t, i.out_above t, i.out_on t, f.1 t);
+                out_each = λ t x l l'. grind (arith, u t, i.out_each t, i.out_above s);
+              };
+            },
+          )
       rises out' m s found b u high low (Expired c lo, i) =
-          (Expired c (suc s), shorter (expired_high v c lo s found (cut_on m c s found (record { place = b; high = high }) (i.out_on s low)) i))
-        where
-          shorter : ((t : ℕ) → on c t ≡ true → t < s → t < lo) → IsExpired v.bg out' v.busy c (suc s)
-          shorter f = record {
-            over = i.over;
-            out_on = λ t h. grind (arith, u t, i.out_on t);
-            out_above = λ t h. grind (arith, u t, i.out_above t, i.out_on t, f t);
-            out_each = λ t x l. grind (arith, u t, i.out_each t, i.out_above s);
-          }
+          let f = expired_high v c lo s found (cut_on m c s found b high (i.out_on s low)) i in (
+            Expired c (suc s),
+            record {
+              over = i.over;
+              out_on = λ t h. grind (arith, u t, i.out_on t);
+              out_above = λ t h. grind (arith, u t, i.out_above t, i.out_on t, f t);
+              out_each = λ t x l. grind (arith, u t, i.out_each t, i.out_above s);
+            },
+          )
 
       -- slot s gives the bus up, when every segment is high
       pub leaves_clear : (m s : ℕ) (found : Option ℕ) → IsAt m s found → segment_of v m found ≡ false → v.busy s ≡ true → Phased v → ((n : ℕ) → v.bg n ≡ false) × ((t : ℕ) → v.out t ≡ false)
-      leaves_clear m s found b high held p = clear (held_of v s held p)
-        where
-          clear : ((c : ℕ) × (lo : ℕ) × (g : Bool) × IsHeld v.bg v.out v.busy c s lo g) → ((n : ℕ) → v.bg n ≡ false) × ((t : ℕ) → v.out t ≡ false)
-          clear (c, lo, g, i) = let f = held_high v c s lo s g found (cut_on m c s found (record { place = b; high = high }) i.member) (omega arith) i in (
+      leaves_clear m s found b high held p =
+          let x = held_of v s held p in
+          let i = x.3 in
+          let f = held_high v x.0 s x.1 s x.2 found (cut_on m x.0 s found b high i.member) (omega arith) i in (
             λ n. is_false (v.bg n) (λ h. cc (i.bg_only n h, i.bg_low, f.0)),
             λ t. is_false (v.out t) (λ h. omega (arith, f.1 t (i.out_on t h) (i.out_below t h), i.out_above t h)),
           )
@@ -595,20 +589,20 @@ module _ (on : ℕ → ℕ → Bool) (slots : ℕ) (two : Bool) where
     pub passes_on : Within → (v : GrantWires) (out' : ℕ → Bool) (passers' : List (Driver × Bool)) (m s : ℕ) (found : Option ℕ) → IsAt m s found → Sets out' v.out s true
         → passers' ≡ (Slot s, false) ∷ v.passers → segment_of v m found ≡ true → v.out s ≡ false → v.br s ≡ false → v.busy s ≡ false → Phased v → Phased (record v { out = out'; passers = passers' })
     passes_on within v out' passers' m s found b u tr low high asks free p =
-        (Granting m (suc s), further (front_of v m s found (record { place = b; low = low; unpassed = high; untaken = free }) p))
+        let f = front_of v m s found (record { place = b; low = low; unpassed = high; untaken = free }) p in (
+          Granting m (suc s),
+          record {
+            begun = f.begun;
+            reached = record {
+              out_on = λ t h. grind (arith, u t, f.out_on t, b.member);
+              out_below = λ t h. grind (arith, u t, f.out_below t, f.above);
+              out_each = λ t x h. grind (arith, u t, f.out_each t, f.all t);
+              passers = tr ∙ ap (λ ts. (Slot s, false) ∷ ts) f.passers ∙ sym (ap quiet (more_part (on m) f.hi s slots b.member (within m s b.member).0 (within m s b.member).1 f.above f.all));
+            };
+            due = due f.hi f.all f.due;
+          },
+        )
       where
         due : (hi : ℕ) → ((t : ℕ) → on m t ≡ true → t < s → t < hi) → IsDue v.br v.withdrawn m hi → IsDue v.br v.withdrawn m (suc s)
         due hi all (inl w) = inl (still_wanted v.br v.br m hi (suc s) w (grind (arith, w.waiter_above, all w.waiter w.waiter_on, w.waits)) w.waits)
         due hi all (inr w) = inr w
-
-        further : IsFront v m s → IsGranting (record v { out = out'; passers = passers' }) m (suc s)
-        further f = record {
-          begun = f.begun;
-          reached = record {
-            out_on = λ t h. grind (arith, u t, f.out_on t, b.member);
-            out_below = λ t h. grind (arith, u t, f.out_below t, f.above);
-            out_each = λ t x h. grind (arith, u t, f.out_each t, f.all t);
-            passers = tr ∙ ap (λ ts. (Slot s, false) ∷ ts) f.passers ∙ sym (ap quiet (more_part (on m) f.hi s slots b.member (within m s b.member).0 (within m s b.member).1 f.above f.all));
-          };
-          due = due f.hi f.all f.due;
-        }
