@@ -178,9 +178,9 @@ module _ (on : ℕ → ℕ → Bool) (slots : ℕ) (two : Bool) where
   abbrev pub AllFree : GrantWires → Type 0
   AllFree v = (m s : ℕ) → on m s ≡ true → v.busy s ≡ false
 
-  -- every segment of the second version is high
-  abbrev pub AllPassed : GrantWires → Type 0
-  AllPassed v = two ≡ true → (m s : ℕ) → on m s ≡ true → v.out s ≡ false
+  -- in the second version, every segment of a board is high
+  abbrev pub AllClear : GrantWires → Type 0
+  AllClear v = two ≡ true → (m s : ℕ) → on m s ≡ true → v.out s ≡ false
 
   -- slot s works the chain of level m, and found is what stands before it there
   pub record IsAt (m s : ℕ) (found : Option ℕ) : Type 0 where
@@ -214,7 +214,7 @@ module _ (on : ℕ → ℕ → Bool) (slots : ℕ) (two : Bool) where
     place : IsAt c s found
     high : segment_of v c found ≡ false
 
-  -- the bus is busy, or the grant has passed the last slot
+  -- in the second version, the grant has passed the last slot
   pub record HasPassed (v : GrantWires) (n : ℕ) (found : Option ℕ) : Type 0 where
     pub version : two ≡ true
     pub last : IsLast n found
@@ -252,7 +252,7 @@ module _ (on : ℕ → ℕ → Bool) (slots : ℕ) (two : Bool) where
   module _ (v : GrantWires) where
     -- ---- which phase it is
 
-    idle_of : NoneGranted v → AllFree v → AllPassed v → Phased v → IsIdle v.bg v.out v.busy
+    idle_of : NoneGranted v → AllFree v → AllClear v → Phased v → IsIdle v.bg v.out v.busy
     idle_of high free clear (Idle, i) = i
     idle_of high free clear (Granting c hi, i) = absurd (cc (high c i.few, i.bg_low))
     idle_of high free clear (Held c k lo g, i) = absurd (cc (free c k i.member, i.holds))
@@ -277,7 +277,7 @@ module _ (on : ℕ → ℕ → Bool) (slots : ℕ) (two : Bool) where
     -- ---- the edges
 
     -- the controller grants level n, at which slot w waits
-    pub grant_falls : (bg' : ℕ → Bool) (n w : ℕ) → Sets bg' v.bg n true → n < 4 → on n w ≡ true → v.br w ≡ true → NoneGranted v → AllFree v → AllPassed v → Phased v
+    pub grant_falls : (bg' : ℕ → Bool) (n w : ℕ) → Sets bg' v.bg n true → n < 4 → on n w ≡ true → v.br w ≡ true → NoneGranted v → AllFree v → AllClear v → Phased v
         → Phased (record v { bg = bg'; granted = Some n; taken = false; passers = []; withdrawn = λ _. false })
     grant_falls bg' n w u few o waits high free clear p =
         let i = idle_of high free clear p in (
@@ -394,12 +394,12 @@ module _ (on : ℕ → ℕ → Bool) (slots : ℕ) (two : Bool) where
   clear_before e v high free p = (idle_of v high free (λ e'. absurd (cc (e, e'))) p).out_high
 
   module _ (one : OneChain) where
-    -- the controller takes the grant back
     module _ (within : Within) (v : GrantWires) where
       passed_each : (n hi : ℕ) (found : Option ℕ) → HasPassed v n found → IsGranting v n hi → (s : ℕ) → on n s ≡ true → v.out s ≡ true
       passed_each n hi None b i s o = absurd (b.last s o (omega (arith, (within n s o).1)))
       passed_each n hi (Some p) b i s o = i.out_each s o (omega (arith, b.last.greatest s o (omega (arith, (within n s o).1)), i.out_below p b.low))
 
+      -- the controller takes the grant back
       pub grant_rises : (bg' : ℕ → Bool) (n : ℕ) (found : Option ℕ) → Sets bg' v.bg n false → v.bg n ≡ true → ((s : ℕ) × (v.busy s ≡ true)) ⊎ HasPassed v n found → Phased v
           → Phased (record v { bg = bg' })
       grant_rises bg' n found u e b (Idle, i) = absurd (cc (i.bg_high n))
@@ -450,13 +450,11 @@ module _ (on : ℕ → ℕ → Bool) (slots : ℕ) (two : Bool) where
         where
           no_holder : (m ≡ c) × (lo ≤ s) × (s ≤ k) → ⊥
           no_holder f = grind (arith, f.0, f.1, f.2, i.out_each s, a.place.member, a.unpassed, a.untaken, i.holds)
-      front_of m s found a (Granting c hi, i) = go (granting_stands c hi m s found a i)
-        where
-          at : IsGranting v m hi → ((t : ℕ) → on m t ≡ true → t < s → t < hi) → IsFront v m s
-          at i all = record { hi = hi; granting = i; above = ⊎_elim (λ (l : s < hi). absurd (cc (i.out_each s a.place.member l, a.unpassed))) (λ (l : hi ≤ s). l) (cases_lt s hi); all = all }
-
-          go : (m ≡ c) × ((t : ℕ) → on m t ≡ true → t < s → t < hi) → IsFront v m s
-          go f = at (subst (λ x. IsGranting v x hi) (sym f.0) i) f.1
+      front_of m s found a (Granting c hi, i) =
+          let f = granting_stands c hi m s found a i in
+          let goes = subst (λ x. IsGranting v x hi) (sym f.0) i in
+          let above : hi ≤ s = ⊎_elim (λ (l : s < hi). absurd (cc (goes.out_each s a.place.member l, a.unpassed))) (λ (l : hi ≤ s). l) (cases_lt s hi) in
+          record { hi = hi; granting = goes; above = above; all = f.1 }
 
       -- slot s takes the bus
       pub takes : (busy' : ℕ → Bool) (taken' : Bool) (m s : ℕ) (found : Option ℕ) → IsAt m s found → Sets busy' v.busy s true → segment_of v m found ≡ true → v.out s ≡ false → v.busy s ≡ false
