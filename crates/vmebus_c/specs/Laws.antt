@@ -20,13 +20,22 @@ use Rattle.vme_seeds.specs.Walks.{Walk, at_start, next_edge, walked}
 use Rattle.vmebus_c.specs.Asked.{failed_by}
 use Rattle.vmebus_c.specs.Named.{edge_of_word}
 use Rattle.vmebus_c.specs.Numbers.{answer_number, delivered_number, edge_number}
-use Rattle.vmebus_c.specs.Played.{drawn_edge}
+use Rattle.vmebus_c.specs.Played.{drawn_edge, weighing_words}
+use Rattle.vmebus_c.specs.Rooms.{most_failing}
 use Rattle.vmebus_c.specs.Stepped.{followed}
-use Rattle.vmebus_c.specs.Verdicts.{is_rule, verdict_of_numbers}
+use Rattle.vmebus_c.specs.Verdicts.{is_rule, last_rule, last_settling, verdict_of_numbers}
 
--- each of the 22 masks has the bits of all wires
+-- the masks: one for the controller, and one for each of 21 slots
+abbrev pub mask_count : ℕ
+mask_count = 22
+
+-- the mask of all wires: a bit for each of 16
+abbrev pub every_wire : ℕ
+every_wire = 65535
+
+-- each mask has the bits of all wires
 abbrev pub PlaysAll : List ℕ → Type 0
-PlaysAll wires = (n : ℕ) → n < 22 → slice_index wires n ≡ 65535
+PlaysAll wires = (n : ℕ) → n < mask_count → slice_index wires n ≡ every_wire
 
 -- draws that stand where a walk stands draw, on all wires, the edge that the walk makes next, as
 -- long as the walk has room for it
@@ -58,7 +67,7 @@ pub record IsBench
     (draws : ℕ → Draws)
     : Type 0 where
   pub opened : histories 0 ≡ []
-  pub begun : numbers_of (draws 0) ≡ after_words 28 (generator seed)
+  pub begun : numbers_of (draws 0) ≡ after_words weighing_words (generator seed)
   pub weighed : (k : Kind) → weight_of (draws 0) k ≡ weight (generator seed) k
   pub none_made : (k : Kind) → made_of (draws 0) k ≡ 0
   pub stepped : (n : ℕ) → histories (suc n)
@@ -84,8 +93,8 @@ HasNumber (Ok (Some d)) =
     (d.level < 128) × (d.handler < 256) × (d.answered_by < 256) × (d.status < 256)
 HasNumber (Err NoSuchDriver) = Unit {0}
 HasNumber (Err AlreadyThere) = Unit {0}
-HasNumber (Err (Rule k)) = is_rule 26 k ≡ true
-HasNumber (Err (NotSettled k)) = is_rule 4 k ≡ true
+HasNumber (Err (Rule k)) = is_rule last_rule k ≡ true
+HasNumber (Err (NotSettled k)) = is_rule last_settling k ≡ true
 HasNumber (Err TraceFull) = ⊥
 
 -- the numbers by which a step returns an answer spell it as `replay` does
@@ -96,4 +105,4 @@ NumbersSpellAnswers = (a : Result (Option Delivery) Refused) → HasNumber a
 -- no edge fails more than five conditions, after whatever edges
 abbrev pub AtMostFiveFail : Type 0
 AtMostFiveFail = (version : Version) (p : Plan) (h : List Edge) (e : Option Edge)
-    → length (failed_by version p h e) ≤ 5
+    → length (failed_by version p h e) ≤ most_failing

@@ -66,10 +66,14 @@ bus_bytes = 660
 abbrev pub draws_bytes : ℕ
 draws_bytes = 148
 
--- 32: the caller's bus has another size
+-- the caller's bus or draws have another size
+abbrev pub size_fault : ℕ
+size_fault = 32
+
+-- that fault comes before those of the version and the scenario
 abbrev pub IsSizedFault : ℕ → Option Version → List ℕ → ℕ → Type 0
 IsSizedFault bytes version text n =
-    ((bytes ≢ bus_bytes) × (n ≡ 32)) ⊎ ((bytes ≡ bus_bytes) × IsFault version text n)
+    ((bytes ≢ bus_bytes) × (n ≡ size_fault)) ⊎ ((bytes ≡ bus_bytes) × IsFault version text n)
 
 -- the bus of the scenario's plan under the rules of that version, before any edge
 abbrev pub IsOpened : Option Version → List ℕ → BusState → Type 0

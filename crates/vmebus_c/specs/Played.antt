@@ -33,6 +33,10 @@ drawn_edge version p h wires d = next_by d (has_board p) (played version p h wir
 abbrev pub AreWeighed : Draws → Type 0
 AreWeighed d = (k : Kind) → 0 < weight_of d k
 
+-- the words of a seed before its first draw: one for the weight of each kind
+abbrev pub weighing_words : ℕ
+weighing_words = 28
+
 -- 0 if an edge was drawn, and 1 if there was none
 abbrev pub drawn_answer : Option Edge → ℕ
 drawn_answer (Some e) = 0

@@ -1,5 +1,37 @@
--- What stands in a caller's room after a list was written into it.
+-- What stands in a caller's room after a list was written into it, and the most that is written.
 use Rattle.std.specs.Prelude.{◌≡◌, ◌≤◌, ◌⊎◌, ℕ, List, [], ◌∷◌, ◌++◌, length, take, drop, nat_lt, if◌then◌else◌}
+
+-- the most bytes of the line of a scenario's fault
+abbrev pub most_fault : ℕ
+most_fault = 1024
+
+-- the most bytes of a verdict
+abbrev pub most_verdict : ℕ
+most_verdict = 37
+
+-- the most conditions that an edge fails
+abbrev pub most_failing : ℕ
+most_failing = 5
+
+-- the most bytes of the text of a condition
+abbrev pub most_why : ℕ
+most_why = 58
+
+-- the most bytes of the line of an edge
+abbrev pub most_line : ℕ
+most_line = 12
+
+-- the most open edges of one driver
+abbrev pub most_open : ℕ
+most_open = 36
+
+-- and of all 22 drivers
+abbrev pub most_played : ℕ
+most_played = 792
+
+-- the numbers of a build
+abbrev pub most_build : ℕ
+most_build = 4
 
 -- as much of the list as there is room for, and behind it what stood there
 abbrev pub written : List ℕ → List ℕ → List ℕ

@@ -10,6 +10,14 @@ use Rattle.vme_model.specs.Report.{verdict_text}
 abbrev pub is_rule : ℕ → ℕ → Bool
 is_rule last n = nat_le 1 n && nat_le n last
 
+-- the last of G1 to G26
+abbrev pub last_rule : ℕ
+last_rule = 26
+
+-- the last of S1 to S4
+abbrev pub last_settling : ℕ
+last_settling = 4
+
 -- the delivery of a number, from the top: the level in seven bits, the handler, the slot that
 -- answers, and the status, a byte each
 abbrev pub delivery_of_number : ℕ → Delivery
@@ -30,8 +38,9 @@ answer_of_numbers answer delivered =
     if answer == 0 then Some (Ok (delivered_of_number delivered))
     else (if answer == 256 then Some (Err NoSuchDriver)
     else (if answer == 512 then Some (Err AlreadyThere)
-    else (if answer / 256 == 3 && is_rule 26 (answer % 256) then Some (Err (Rule (answer % 256)))
-    else (if answer / 256 == 4 && is_rule 4 (answer % 256) then
+    else (if answer / 256 == 3 && is_rule last_rule (answer % 256) then
+    Some (Err (Rule (answer % 256)))
+    else (if answer / 256 == 4 && is_rule last_settling (answer % 256) then
     Some (Err (NotSettled (answer % 256)))
     else None))))
 

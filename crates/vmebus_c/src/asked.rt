@@ -7,6 +7,7 @@ ghost use Rattle.vme_bus.specs.States.{OfHistory};
 ghost use Rattle.vmebus_c.specs.Asked.{failed_by, failed_numbers, marked_text, open_numbers, spelled, why_text};
 ghost use Rattle.vmebus_c.specs.Conditions.{condition_number};
 ghost use Rattle.vmebus_c.specs.Numbers.{edge_number};
+ghost use Rattle.vmebus_c.specs.Rooms.{most_failing, most_line, most_open, most_why};
 
 use crate::numbers::{condition_number, edge_number};
 use arrayvec::ArrayVec;
@@ -44,7 +45,7 @@ fn failed_by(bus: &BusState, edge: Option<Edge>) -> ArrayVec<Condition, FAILING>
 
 /// The numbers of the conditions.
 fn condition_numbers(conditions: &[Condition]) -> ArrayVec<u32, FAILING>
-    requires { length conditions.now ≤ 5 }
+    requires { length conditions.now ≤ most_failing }
     ensures { result.items ≡ map condition_number conditions.now }
 {
     let mut numbers = ArrayVec::new();
@@ -63,7 +64,7 @@ pub(crate) fn failed_numbers(bus: &BusState, edge: Option<Edge>) -> ArrayVec<u32
 
 /// The edges, a word each.
 fn edge_numbers(edges: &[Edge]) -> ArrayVec<u32, OPEN>
-    requires { length edges.now ≤ 36 }
+    requires { length edges.now ≤ most_open }
     ensures { result.items ≡ map edge_number edges.now }
 {
     let mut numbers = ArrayVec::new();
@@ -87,7 +88,7 @@ pub(crate) fn open_numbers(bus: &BusState, driver: Option<Driver>) -> ArrayVec<u
 /// backplane, or if there is no edge.
 pub(crate) fn spelled(edge: Option<Edge>) -> ArrayVec<u8, LINE>
     ensures text { result.items ≡ spelled edge }
-    ensures short { array_vec_len result ≤ 12 }
+    ensures short { array_vec_len result ≤ most_line }
 {
     match edge {
         Some(edge) if edge.is_well_formed() => spelling_of(&edge),
@@ -99,7 +100,7 @@ pub(crate) fn spelled(edge: Option<Edge>) -> ArrayVec<u8, LINE>
 fn marked_text(bus: &BusState, edge: &Edge, condition: Condition) -> ArrayVec<u8, TEXT>
     requires { IsTrue (is_well_formed edge.now) }
     ensures text { OfHistory bus.now (λ _ p h. result.items ≡ marked_text p h edge.now condition) }
-    ensures short { array_vec_len result ≤ 58 }
+    ensures short { array_vec_len result ≤ most_why }
 {
     let shown = bus.pins(Driver::Controller).shown;
     let text = condition.text(edge, bus.row(edge.driver), shown);

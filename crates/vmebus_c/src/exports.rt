@@ -15,14 +15,14 @@ ghost use Rattle.vmebus_c.specs.Asked.{asked_of, failed_numbers, open_numbers, s
 ghost use Rattle.vmebus_c.specs.Bits.{pins_number};
 ghost use Rattle.vmebus_c.specs.Built.{build_numbers};
 ghost use Rattle.vmebus_c.specs.Named.{version_of_number, driver_of_number, edge_of_numbers, wire_of_number};
-ghost use Rattle.vmebus_c.specs.Opened.{HasFault, HasNoFault, IsOpened, IsSizedFault, bus_bytes, draws_bytes};
+ghost use Rattle.vmebus_c.specs.Opened.{HasFault, HasNoFault, IsOpened, IsSizedFault, bus_bytes, draws_bytes, size_fault};
 ghost use Rattle.vme_seeds.specs.declared.kinds.Kind.{Kind as KindOf};
 ghost use Rattle.vme_seeds.specs.Choices.{weight};
 ghost use Rattle.vme_seeds.specs.Draws.{IsCountedIn, is_seeded, made_of, numbers_of, weight_of};
 ghost use Rattle.vme_seeds.specs.Kinds.{has_board};
 ghost use Rattle.vme_seeds.specs.Numbers.{after_words, generator};
-ghost use Rattle.vmebus_c.specs.Played.{AreWeighed, IsFullKept, IsNumberIn, drawn_answer, drawn_edge, drawn_number, played};
-ghost use Rattle.vmebus_c.specs.Rooms.{HasFew, HasShort, written, written_text};
+ghost use Rattle.vmebus_c.specs.Played.{AreWeighed, IsFullKept, IsNumberIn, drawn_answer, drawn_edge, drawn_number, played, weighing_words};
+ghost use Rattle.vmebus_c.specs.Rooms.{HasFew, HasShort, most_build, most_failing, most_fault, most_line, most_open, most_verdict, most_why, written, written_text};
 ghost use Rattle.vmebus_c.specs.Stepped.{answered_or, delivery_of_edge, followed, no_bus, no_driver, no_edge};
 ghost use Rattle.vmebus_c.specs.Verdicts.{verdict_of_numbers};
 
@@ -124,7 +124,7 @@ pub extern "C" fn vmebus_fault_text(
     ensures none { result ≡ 0 → HasNoFault (version_of_number version) scenario.now }
     ensures fault { result ≢ 0 → HasFault (version_of_number version) scenario.now }
     ensures unwritten { result ≡ 0 → text.new ≡ text.old }
-    ensures few { HasShort 1024 result text.old text.new }
+    ensures few { HasShort most_fault result text.old text.new }
 {
     match opened(alloc, version, scenario) {
         Ok(_) => 0,
@@ -287,7 +287,7 @@ pub extern "C" fn vmebus_failing(
         (failed_numbers version p h (edge_of_numbers driver wire fall value))) }
     ensures no_bus { is_slot bus.now.layout.slots ≡ false → result ≡ 0 }
     ensures unwritten { is_slot bus.now.layout.slots ≡ false → conditions.new ≡ conditions.old }
-    ensures few { HasFew 5 result conditions.old conditions.new }
+    ensures few { HasFew most_failing result conditions.old conditions.new }
 {
     if !bus.is_bus() {
         return 0;
@@ -319,7 +319,7 @@ pub extern "C" fn vmebus_why(
         (why_text version p h (edge_of_numbers driver wire fall value) place)) }
     ensures no_bus { is_slot bus.now.layout.slots ≡ false → result ≡ 0 }
     ensures unwritten { is_slot bus.now.layout.slots ≡ false → text.new ≡ text.old }
-    ensures few { HasShort 58 result text.old text.new }
+    ensures few { HasShort most_why result text.old text.new }
 {
     if !bus.is_bus() {
         return 0;
@@ -345,7 +345,7 @@ pub extern "C" fn vmebus_spell(
     ensures count { result ≡ length (spelled (edge_of_numbers driver wire fall value)) }
     ensures line { line.new
         ≡ written_text line.old (spelled (edge_of_numbers driver wire fall value)) }
-    ensures few { HasShort 12 result line.old line.new }
+    ensures few { HasShort most_line result line.old line.new }
 {
     let spelling = spelled(edge_of_numbers(driver, wire, fall, value));
     write_text(line, spelling.as_slice());
@@ -366,7 +366,7 @@ pub extern "C" fn vmebus_open_edges(bus: &BusState, driver: u32, edges: &mut [u3
         ≡ written edges.old (open_numbers version p h (driver_of_number driver))) }
     ensures no_bus { is_slot bus.now.layout.slots ≡ false → result ≡ 0 }
     ensures unwritten { is_slot bus.now.layout.slots ≡ false → edges.new ≡ edges.old }
-    ensures few { HasFew 36 result edges.old edges.new }
+    ensures few { HasFew most_open result edges.old edges.new }
 {
     if !bus.is_bus() {
         return 0;
@@ -414,7 +414,7 @@ pub extern "C" fn vmebus_has(bus: &BusState, driver: u32, wire: u32) -> u32
 pub extern "C" fn vmebus_verdict(answer: u32, delivered: u32, text: &mut [u8]) -> u32
     ensures count { result ≡ length (verdict_of_numbers answer delivered) }
     ensures text { text.new ≡ written_text text.old (verdict_of_numbers answer delivered) }
-    ensures few { HasShort 37 result text.old text.new }
+    ensures few { HasShort most_verdict result text.old text.new }
 {
     let verdict = verdict_of(answer, delivered);
     write_text(text, verdict.as_slice());
@@ -428,9 +428,10 @@ pub extern "C" fn vmebus_verdict(answer: u32, delivered: u32, text: &mut [u8]) -
 #[unsafe(no_mangle)]
 pub extern "C" fn vmebus_seed_sized(draws: &mut Draws, bytes: usize, seed: u64) -> u32
     ensures size { (result ≡ 0) ↔ (bytes ≡ draws_bytes) }
-    ensures other { result ≢ 0 → result ≡ 32 }
+    ensures other { result ≢ 0 → result ≡ size_fault }
     ensures unchanged { result ≢ 0 → draws.new ≡ draws.old }
-    ensures numbers { result ≡ 0 → numbers_of draws.new ≡ after_words 28 (generator seed) }
+    ensures numbers { result ≡ 0
+        → numbers_of draws.new ≡ after_words weighing_words (generator seed) }
     ensures weights { result ≡ 0
         → (k : KindOf) → weight_of draws.new k ≡ weight (generator seed) k }
     ensures weighed { result ≡ 0 → AreWeighed draws.new }
@@ -510,7 +511,7 @@ pub extern "C" fn vmebus_draw(
 pub extern "C" fn vmebus_build(numbers: &mut [u32]) -> u32
     ensures count { result ≡ length build_numbers }
     ensures numbers { numbers.new ≡ written numbers.old build_numbers }
-    ensures few { HasFew 4 result numbers.old numbers.new }
+    ensures few { HasFew most_build result numbers.old numbers.new }
 {
     write(numbers, &[VERSION, WORDS, DRAWS_WORDS, IS_PROVED]);
     4

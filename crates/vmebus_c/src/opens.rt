@@ -4,7 +4,7 @@ ghost use Rattle.vme_scenario.specs.Format.{scenario};
 ghost use Rattle.vmebus_c.specs.Named.{version_of_number};
 ghost use Rattle.vmebus_c.specs.Faults.{open_number};
 ghost use Rattle.vmebus_c.specs.Opened.{scenario_limit, plan_number, scenario_number, IsFault};
-ghost use Rattle.vmebus_c.specs.Rooms.{HasShort};
+ghost use Rattle.vmebus_c.specs.Rooms.{HasShort, most_fault};
 
 use crate::named::version_of;
 use crate::rooms::write_text;
@@ -105,7 +105,7 @@ pub(crate) fn opened(alloc: Global, version: u32, text: &[u8]) -> Result<(Versio
 /// Writes the line of a fault, and returns how many bytes it has. If there is no memory for it, it
 /// is that of Q6.
 pub(crate) fn write_fault(alloc: Global, fault: &OpenError, room: &mut [u8]) -> u32
-    ensures few { HasShort 1024 result room.old room.new }
+    ensures few { HasShort most_fault result room.old room.new }
     ensures some { 0 < result }
 {
     match format!(in alloc; "{}", OneLine(fault)) {
@@ -117,7 +117,7 @@ pub(crate) fn write_fault(alloc: Global, fault: &OpenError, room: &mut [u8]) -> 
 /// Writes the line, or what it begins with if it has more than 1,024 bytes.
 fn write_line(line: &[u8], room: &mut [u8]) -> u32
     requires { 0 < length line.now }
-    ensures few { HasShort 1024 result room.old room.new }
+    ensures few { HasShort most_fault result room.old room.new }
     ensures some { 0 < result }
 {
     let count = line.len().min(MOST_LINE);

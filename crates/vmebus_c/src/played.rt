@@ -9,6 +9,7 @@ ghost use Rattle.vme_seeds.specs.Draws.{IsCountedIn, next_by, numbers_of};
 ghost use Rattle.vme_seeds.specs.Kinds.{has_board};
 ghost use Rattle.vme_seeds.specs.Numbers.{after_words};
 ghost use Rattle.vmebus_c.specs.Played.{AreWeighed, IsFullKept, drawn_edge, is_played, played};
+ghost use Rattle.vmebus_c.specs.Rooms.{most_open, most_played};
 
 use crate::lists::EdgeList;
 use vme_bus::{BusState, SlotSet};
@@ -54,10 +55,10 @@ fn append_played<const N: usize>(edges: &mut EdgeList<N>, ready: &[Edge], wires:
 
 /// Appends the open edges of a driver whose wires are played.
 fn append_of<const N: usize>(bus: &BusState, driver: Driver, wires: &[u32], edges: &mut EdgeList<N>)
-    requires { length edges.old + 36 ≤ N }
+    requires { length edges.old + most_open ≤ N }
     ensures items { OfHistory bus.now (λ version p h. edges.new ≡ edges.old
         ++ filter (is_played wires.now) (open_but_full version p h driver)) }
-    ensures few { length edges.new ≤ length edges.old + 36 }
+    ensures few { length edges.new ≤ length edges.old + most_open }
 {
     append_played(edges, open_edges_of(bus, driver).as_slice(), wires);
 }
@@ -71,11 +72,11 @@ fn append_slot<const N: usize>(
     wires: &[u32],
     edges: &mut EdgeList<N>,
 )
-    requires { length edges.old + 36 ≤ N }
+    requires { length edges.old + most_open ≤ N }
     ensures items { OfHistory bus.now (λ version p h. has boards ≡ has_board p
         → edges.new ≡ edges.old
         ++ filter (is_played wires.now) (open_but_full version p h (Slot slot))) }
-    ensures few { length edges.new ≤ length edges.old + 36 }
+    ensures few { length edges.new ≤ length edges.old + most_open }
 {
     if !boards.has(slot) {
         return;
@@ -85,8 +86,8 @@ fn append_slot<const N: usize>(
 
 /// Whether the list has room for the open edges of any driver.
 fn has_room<const N: usize>(edges: &EdgeList<N>) -> bool
-    ensures room { result ≡ true → length edges.now + 36 ≤ N }
-    ensures full { result ≡ false → N < length edges.now + 36 }
+    ensures room { result ≡ true → length edges.now + most_open ≤ N }
+    ensures full { result ≡ false → N < length edges.now + most_open }
 {
     N - edges.as_slice().len() >= OF_DRIVER
 }
@@ -101,10 +102,10 @@ fn append_all<const N: usize>(
     edges: &mut EdgeList<N>,
 ) -> bool
     requires empty { edges.old ≡ [] }
-    requires room { 36 ≤ N }
+    requires room { most_open ≤ N }
     ensures all { result ≡ true → OfHistory bus.now (λ version p h. has boards ≡ has_board p
         → edges.new ≡ played version p h wires.now) }
-    ensures fit { 792 ≤ N → result ≡ true }
+    ensures fit { most_played ≤ N → result ≡ true }
 {
     append_of(bus, Driver::Controller, wires, edges);
     for below in 0..21_u8 {
@@ -118,7 +119,7 @@ fn append_all<const N: usize>(
 
 /// Draws one of these edges, if these slots have a board, and counts it; none if there is no edge.
 fn draw_one(draws: &mut Draws, boards: SlotSet, edges: &[Edge]) -> Option<Edge>
-    requires { length edges.now ≤ 792 }
+    requires { length edges.now ≤ most_played }
     ensures edge { result ≡ next_by draws.old (has boards) edges.now }
     ensures numbers { numbers_of draws.new ≡ after_words 2 (numbers_of draws.old) }
     ensures weights { draws.new.weights ≡ draws.old.weights }

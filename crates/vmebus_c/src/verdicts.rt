@@ -1,6 +1,7 @@
 //! The answer of a step as text, and the fault of a scenario.
 ghost use Rattle.std.specs.Prelude.{◌≡◌, ◌≤◌, ◌%◌};
 ghost use Rattle.arrayvec.specs.ArrayVec.{array_vec_len};
+ghost use Rattle.vmebus_c.specs.Rooms.{most_verdict};
 ghost use Rattle.vmebus_c.specs.Verdicts.{answer_of_numbers, delivered_of_number, delivery_of_number, is_rule, verdict_of_numbers};
 
 use arrayvec::ArrayVec;
@@ -68,7 +69,7 @@ fn answer_of(answer: u32, delivered: u32) -> Option<Result<Option<Delivery>, Ref
 /// The text of an answer, as `replay` has it. It is empty if no step returns the number.
 pub(crate) fn verdict_of(answer: u32, delivered: u32) -> ArrayVec<u8, VERDICT>
     ensures text { result.items ≡ verdict_of_numbers answer delivered }
-    ensures short { array_vec_len result ≤ 37 }
+    ensures short { array_vec_len result ≤ most_verdict }
 {
     let mut line = ArrayVec::new();
     if let Some(answer) = answer_of(answer, delivered) {
