@@ -1,6 +1,7 @@
 //! The files that a job reads, and its output.
 ghost use Rattle.std.specs.Prelude.{◌≡◌, ◌<◌, ◌≤◌, Err, IfOk, IfErr, IfSome, [], length};
 ghost use Rattle.std.specs.Io.Buffered.{reader_inner, reader_buffer, reader_capacity, writer_buffer, writer_capacity};
+ghost use Rattle.vme_program.specs.Buffers.{read_size, written_size};
 ghost use Rattle.vme_reading.specs.Outcomes.{scenario_limit};
 ghost use Rattle.vme_program.specs.Names.{IsFileFault, IsScenarioFault};
 
@@ -76,7 +77,7 @@ pub fn buffered<R: Read + Drop>(
 ) -> Result<BufReader<R>, ProgramFault<'static>>
     ensures inner { IfOk result (λ reader. reader_inner reader ≡ input) }
     ensures empty { IfOk result (λ reader. reader_buffer reader ≡ []) }
-    ensures room { IfOk result (λ reader. reader_capacity reader ≡ 65536) }
+    ensures room { IfOk result (λ reader. reader_capacity reader ≡ read_size) }
     ensures fault { IfErr result (λ fault. fault ≡ ProgramFault.Engine EngineFault.NoMemory) }
 {
     match BufReader::with_capacity(rt.alloc(), READ, input) {
@@ -91,7 +92,7 @@ pub fn buffered<R: Read + Drop>(
 /// F3 if memory runs out.
 pub fn output(rt: &HostRuntime) -> Result<BufWriter<Patient<Stdout>>, ProgramFault<'static>>
     ensures empty { IfOk result (λ writer. writer_buffer writer ≡ []) }
-    ensures room { IfOk result (λ writer. writer_capacity writer ≡ 270336) }
+    ensures room { IfOk result (λ writer. writer_capacity writer ≡ written_size) }
     ensures fault { IfErr result (λ fault. fault ≡ ProgramFault.Engine EngineFault.NoMemory) }
 {
     match BufWriter::with_capacity(rt.alloc(), WRITTEN, Patient(rt.stdout())) {
