@@ -7,7 +7,7 @@ ghost use Rattle.vme_standings.specs.Standings.{is_nobody};
 ghost use Rattle.vme_probe.specs.Ends.{AddsComing, interrupt_lines, next_changes, next_cycles, next_interrupts, next_lines, next_of, next_of_probe, next_pins, next_requests, next_strobes, pulled_line, request_lines, strobe_fall};
 ghost use Rattle.vme_probe.specs.Stopped.{board_lines, board_obstacle, has_ours, is_ours_if, nobody_text, is_refused_by_ours, obstacle_if, obstacle_text, refused_text, stopped_text};
 ghost use Rattle.vme_probe.specs.Ends.{IsEnd, IsPlaces, IsStanding, are_slots, is_probe};
-ghost use Rattle.vme_probe.specs.Rooms.{report_room};
+ghost use Rattle.vme_probe.specs.Rooms.{boards_width, coming_width, interrupts_width, low_width, next_interrupts_width, next_lines_width, next_pins_width, next_requests_width, next_strobes_width, next_width, nobody_width, obstacle_width, refused_width, report_room, requests_width, standing_width};
 
 use crate::conditions::obstacle;
 use crate::lines::{
@@ -49,9 +49,9 @@ fn obstacle_if(
 /// Appends the line of what stands in the way of a driver, if something does: at most 97 bytes. The
 /// result is whether that is a condition of our own rules alone.
 fn push_obstacle(report: &mut Report, driver: Driver, found: Option<Obstacle>) -> bool
-    requires { array_vec_len report.old + 97 ≤ report_room }
+    requires { array_vec_len report.old + obstacle_width ≤ report_room }
     ensures items { report.new.items ≡ report.old.items ++ obstacle_text driver found }
-    ensures len { array_vec_len report.new ≤ array_vec_len report.old + 97 }
+    ensures len { array_vec_len report.new ≤ array_vec_len report.old + obstacle_width }
     ensures ours { result ≡ is_ours_if found }
 {
     match found {
@@ -74,10 +74,10 @@ fn push_of_boards(
     change: &Change,
     boards: SlotSet,
 ) -> bool
-    requires { array_vec_len report.old + 2134 ≤ report_room }
+    requires { array_vec_len report.old + boards_width ≤ report_room }
     ensures items { report.new.items ≡ report.old.items
         ++ board_lines (board_obstacle plan.now probed.now.version before.now change.now boards) }
-    ensures len { array_vec_len report.new ≤ array_vec_len report.old + 2134 }
+    ensures len { array_vec_len report.new ≤ array_vec_len report.old + boards_width }
     ensures ours { result
         ≡ has_ours (board_obstacle plan.now probed.now.version before.now change.now boards) }
 {
@@ -101,9 +101,9 @@ pub(crate) fn either(a: bool, b: bool) -> bool
 /// Appends the line that says that nobody has the line or wire of a change, if that is so: at most
 /// 40 bytes.
 fn push_if_nobody(report: &mut Report, drivers: Drivers)
-    requires { array_vec_len report.old + 40 ≤ report_room }
+    requires { array_vec_len report.old + nobody_width ≤ report_room }
     ensures items { report.new.items ≡ report.old.items ++ nobody_text drivers }
-    ensures len { array_vec_len report.new ≤ array_vec_len report.old + 40 }
+    ensures len { array_vec_len report.new ≤ array_vec_len report.old + nobody_width }
 {
     if drivers.is_nobody() {
         push(report, no_driver_line());
@@ -124,11 +124,11 @@ pub(crate) fn push_refused(
     change: &Change,
     drivers: Drivers,
 ) -> bool
-    requires room { array_vec_len report.old + 2326 ≤ report_room }
+    requires room { array_vec_len report.old + refused_width ≤ report_room }
     requires change { IsTrue (is_change change.now) }
     ensures items { report.new.items ≡ report.old.items
         ++ refused_text plan.now probed.now.version before.now moment change.now drivers }
-    ensures len { array_vec_len report.new ≤ array_vec_len report.old + 2326 }
+    ensures len { array_vec_len report.new ≤ array_vec_len report.old + refused_width }
     ensures ours { result
         ≡ is_refused_by_ours plan.now probed.now.version before.now change.now drivers }
 {
@@ -178,20 +178,20 @@ fn places_of(plan: &Plan, phases: &GrantPhases) -> Places
 
 /// Appends the line of the boards that may pull a line, if it is low: at most 101 bytes.
 fn push_pulled(report: &mut Report, standings: &Standings, line: Line, pullers: SlotSet)
-    requires room { array_vec_len report.old + 101 ≤ report_room }
+    requires room { array_vec_len report.old + low_width ≤ report_room }
     requires line { IsTrue (is_line line) }
     ensures items { report.new.items
         ≡ report.old.items ++ pulled_line standings.now line (has pullers) }
-    ensures len { array_vec_len report.new ≤ array_vec_len report.old + 101 }
+    ensures len { array_vec_len report.new ≤ array_vec_len report.old + low_width }
 {
     push_low(report, standings.lines.is_low(line), line, pullers);
 }
 
 /// Appends the lines of the request lines that are low: at most 404 bytes.
 fn push_requests(report: &mut Report, plan: &Plan, standings: &Standings)
-    requires { array_vec_len report.old + 404 ≤ report_room }
+    requires { array_vec_len report.old + requests_width ≤ report_room }
     ensures items { report.new.items ≡ report.old.items ++ request_lines plan.now standings.now }
-    ensures len { array_vec_len report.new ≤ array_vec_len report.old + 404 }
+    ensures len { array_vec_len report.new ≤ array_vec_len report.old + requests_width }
 {
     for level in 0..4_u8 {
         push_pulled(
@@ -205,9 +205,9 @@ fn push_requests(report: &mut Report, plan: &Plan, standings: &Standings)
 
 /// Appends the lines of the interrupt request lines that are low: at most 707 bytes.
 fn push_interrupts(report: &mut Report, plan: &Plan, standings: &Standings)
-    requires { array_vec_len report.old + 707 ≤ report_room }
+    requires { array_vec_len report.old + interrupts_width ≤ report_room }
     ensures items { report.new.items ≡ report.old.items ++ interrupt_lines plan.now standings.now }
-    ensures len { array_vec_len report.new ≤ array_vec_len report.old + 707 }
+    ensures len { array_vec_len report.new ≤ array_vec_len report.old + interrupts_width }
 {
     for below in 0..7_u8 {
         let level = below + 1;
@@ -228,11 +228,11 @@ fn push_change(
     standings: &Standings,
     change: Change,
 )
-    requires room { array_vec_len report.old + 127 ≤ report_room }
+    requires room { array_vec_len report.old + coming_width ≤ report_room }
     requires change { IsTrue (is_change change) }
     ensures adds { AddsComing plan.now probed.now standings.now (change ∷ [])
         report.old.items report.new.items }
-    ensures len { array_vec_len report.new ≤ array_vec_len report.old + 127 }
+    ensures len { array_vec_len report.new ≤ array_vec_len report.old + coming_width }
 {
     push_may_come(report, &change, standings.drivers(plan, probed, &change));
 }
@@ -240,12 +240,12 @@ fn push_change(
 /// Appends the line of the next change of a line, which is seen with nothing, if somebody may make
 /// it: at most 127 bytes. A fall of AS* is seen with something.
 fn push_next(report: &mut Report, plan: &Plan, probed: &Probed, standings: &Standings, line: Line)
-    requires room { array_vec_len report.old + 127 ≤ report_room }
+    requires room { array_vec_len report.old + coming_width ≤ report_room }
     requires line { IsTrue (is_line line) }
     requires change { IsTrue (is_change (next_of standings.now line)) }
     ensures adds { AddsComing plan.now probed.now standings.now (next_of standings.now line ∷ [])
         report.old.items report.new.items }
-    ensures len { array_vec_len report.new ≤ array_vec_len report.old + 127 }
+    ensures len { array_vec_len report.new ≤ array_vec_len report.old + coming_width }
 {
     let change = Change {
         signal: Signal::Line(line),
@@ -257,10 +257,10 @@ fn push_next(report: &mut Report, plan: &Plan, probed: &Probed, standings: &Stan
 
 /// Appends the lines of the next changes of the request lines: at most 508 bytes.
 fn push_next_requests(report: &mut Report, plan: &Plan, probed: &Probed, standings: &Standings)
-    requires { array_vec_len report.old + 508 ≤ report_room }
+    requires { array_vec_len report.old + next_requests_width ≤ report_room }
     ensures adds { AddsComing plan.now probed.now standings.now (next_requests standings.now)
         report.old.items report.new.items }
-    ensures len { array_vec_len report.new ≤ array_vec_len report.old + 508 }
+    ensures len { array_vec_len report.new ≤ array_vec_len report.old + next_requests_width }
 {
     for level in 0..4_u8 {
         push_next(report, plan, probed, standings, Line::Br(level));
@@ -269,10 +269,10 @@ fn push_next_requests(report: &mut Report, plan: &Plan, probed: &Probed, standin
 
 /// Appends the lines of the next changes of the interrupt request lines: at most 889 bytes.
 fn push_next_interrupts(report: &mut Report, plan: &Plan, probed: &Probed, standings: &Standings)
-    requires { array_vec_len report.old + 889 ≤ report_room }
+    requires { array_vec_len report.old + next_interrupts_width ≤ report_room }
     ensures adds { AddsComing plan.now probed.now standings.now (next_interrupts standings.now)
         report.old.items report.new.items }
-    ensures len { array_vec_len report.new ≤ array_vec_len report.old + 889 }
+    ensures len { array_vec_len report.new ≤ array_vec_len report.old + next_interrupts_width }
 {
     for below in 0..7_u8 {
         push_next(report, plan, probed, standings, Line::Irq(below + 1));
@@ -292,10 +292,10 @@ fn strobe_fall(value: Value) -> Change
 
 /// Appends the lines of the falls of AS*: at most 1,016 bytes.
 fn push_next_cycles(report: &mut Report, plan: &Plan, probed: &Probed, standings: &Standings)
-    requires { array_vec_len report.old + 1016 ≤ report_room }
+    requires { array_vec_len report.old + next_strobes_width ≤ report_room }
     ensures adds { AddsComing plan.now probed.now standings.now next_cycles
         report.old.items report.new.items }
-    ensures len { array_vec_len report.new ≤ array_vec_len report.old + 1016 }
+    ensures len { array_vec_len report.new ≤ array_vec_len report.old + next_strobes_width }
 {
     for below in 0..7_u8 {
         let value = Value::Shown(Cycle::Acknowledge(below + 1));
@@ -306,10 +306,10 @@ fn push_next_cycles(report: &mut Report, plan: &Plan, probed: &Probed, standings
 
 /// Appends the lines of the next changes of AS*: at most 1,016 bytes.
 fn push_next_strobes(report: &mut Report, plan: &Plan, probed: &Probed, standings: &Standings)
-    requires { array_vec_len report.old + 1016 ≤ report_room }
+    requires { array_vec_len report.old + next_strobes_width ≤ report_room }
     ensures adds { AddsComing plan.now probed.now standings.now (next_strobes standings.now)
         report.old.items report.new.items }
-    ensures len { array_vec_len report.new ≤ array_vec_len report.old + 1016 }
+    ensures len { array_vec_len report.new ≤ array_vec_len report.old + next_strobes_width }
 {
     if standings.lines.is_low(Line::AddressStrobe) {
         push_next(report, plan, probed, standings, Line::AddressStrobe);
@@ -327,11 +327,11 @@ fn push_next_pin(
     standings: &Standings,
     probe: Option<Probe>,
 )
-    requires room { array_vec_len report.old + 127 ≤ report_room }
+    requires room { array_vec_len report.old + coming_width ≤ report_room }
     requires slot { IsTrue (is_probe probe) }
     ensures adds { AddsComing plan.now probed.now standings.now (next_of_probe probe)
         report.old.items report.new.items }
-    ensures len { array_vec_len report.new ≤ array_vec_len report.old + 127 }
+    ensures len { array_vec_len report.new ≤ array_vec_len report.old + coming_width }
 {
     if let Some(probe) = probe {
         let change = Change {
@@ -353,11 +353,11 @@ fn push_next_pins(
     probes: &[Probe],
     chain: ChainId,
 )
-    requires room { array_vec_len report.old + 2794 ≤ report_room }
+    requires room { array_vec_len report.old + next_pins_width ≤ report_room }
     requires slots { IsTrue (are_slots probes.now) }
     ensures adds { AddsComing plan.now probed.now standings.now (next_pins probes.now chain)
         report.old.items report.new.items }
-    ensures len { array_vec_len report.new ≤ array_vec_len report.old + 2794 }
+    ensures len { array_vec_len report.new ≤ array_vec_len report.old + next_pins_width }
 {
     for slot in 0..SLOTS {
         let probe = probe_at(probes, segment_at(chain, slot));
@@ -367,10 +367,10 @@ fn push_next_pins(
 
 /// Appends the lines of the next changes of the shared lines: at most 3,048 bytes.
 fn push_next_lines(report: &mut Report, plan: &Plan, probed: &Probed, standings: &Standings)
-    requires { array_vec_len report.old + 3048 ≤ report_room }
+    requires { array_vec_len report.old + next_lines_width ≤ report_room }
     ensures adds { AddsComing plan.now probed.now standings.now (next_lines standings.now)
         report.old.items report.new.items }
-    ensures len { array_vec_len report.new ≤ array_vec_len report.old + 3048 }
+    ensures len { array_vec_len report.new ≤ array_vec_len report.old + next_lines_width }
 {
     push_next_requests(report, plan, probed, standings);
     push_next_interrupts(report, plan, probed, standings);
@@ -390,7 +390,7 @@ fn push_coming(
     standings: &Standings,
     probes: &[Probe],
 )
-    requires room { array_vec_len report.old + 17018 ≤ report_room }
+    requires room { array_vec_len report.old + next_width ≤ report_room }
     requires slots { IsTrue (are_slots probes.now) }
     ensures { AddsComing plan.now probed.now standings.now
         (next_changes standings.now probes.now) report.old.items report.new.items }
@@ -407,7 +407,7 @@ fn push_coming(
 fn push_standing(report: &mut Report, plan: &Plan, standings: &Standings, changes: u64)
     requires { report.old.items ≡ [] }
     ensures text { IsStanding plan.now standings.now changes report.new.items }
-    ensures len { array_vec_len report.new ≤ 2632 }
+    ensures len { array_vec_len report.new ≤ standing_width }
 {
     push_possible(report, changes);
     push_holder(report, standings.phases.holders());

@@ -3,7 +3,7 @@ ghost use Rattle.std.specs.Prelude.{◌≡◌, ◌+◌, ◌≤◌, ◌<◌, ◌+
 ghost use Rattle.arrayvec.specs.ArrayVec.{array_vec_len};
 ghost use Rattle.vme_captures.specs.Signals.{is_change};
 ghost use Rattle.vme_samples.specs.Samples.{are_changes};
-ghost use Rattle.vme_probe.specs.Rooms.{report_room};
+ghost use Rattle.vme_probe.specs.Rooms.{change_width, refused_width, report_room, sample_width, stopped_width};
 ghost use Rattle.vme_probe.specs.Sampled.{AddsRefused, Refuses, placed_line, placed_lines};
 ghost use Rattle.vme_probe.specs.Steps.{IsOfStopped, SampleTaken, SeveralTaken};
 
@@ -22,11 +22,11 @@ use vme_trace::{Fault, put};
 /// Appends the line of a change with those who may have made it, if it is to be there: at most 160
 /// bytes.
 fn push_line(report: &mut Report, is_there: bool, seen: &SeenChange, drivers: Drivers)
-    requires room { array_vec_len report.old + 160 ≤ report_room }
+    requires room { array_vec_len report.old + change_width ≤ report_room }
     requires change { IsTrue (is_change seen.now.change) }
     ensures items { report.new.items
         ≡ report.old.items ++ placed_line (Some seen.now) is_there drivers }
-    ensures len { array_vec_len report.new ≤ array_vec_len report.old + 160 }
+    ensures len { array_vec_len report.new ≤ array_vec_len report.old + change_width }
 {
     if is_there {
         push(
@@ -44,7 +44,7 @@ fn push_placed(report: &mut Report, sample: &[SeenChange], places: Places, maker
     requires changes { IsTrue (are_changes sample.now) }
     ensures items { report.new.items
         ≡ placed_lines sample.now places makers.now (length sample.now) }
-    ensures len { array_vec_len report.new ≤ 1920 }
+    ensures len { array_vec_len report.new ≤ sample_width }
 {
     for place in 0..sample.len() {
         let is_there = places.has(place);
@@ -62,11 +62,11 @@ fn push_refused_if(
     is_there: bool,
     seen: &SeenChange,
 ) -> bool
-    requires room { array_vec_len report.old + 2326 ≤ report_room }
+    requires room { array_vec_len report.old + refused_width ≤ report_room }
     requires change { IsTrue (is_change seen.now.change) }
     ensures adds { (text : List ℕ) × (report.new.items ≡ report.old.items ++ text)
         × Refuses plan.now probed.now.version before.now (Some seen.now) is_there text result }
-    ensures len { array_vec_len report.new ≤ array_vec_len report.old + 2326 }
+    ensures len { array_vec_len report.new ≤ array_vec_len report.old + refused_width }
 {
     if !is_there {
         return false;
@@ -93,12 +93,12 @@ fn push_refused_next(
     sample: &[SeenChange],
     places: Places,
 ) -> bool
-    requires room { array_vec_len report.old ≤ 1920 }
+    requires room { array_vec_len report.old ≤ sample_width }
     requires few { length sample.now ≤ 12 }
     requires changes { IsTrue (are_changes sample.now) }
     ensures adds { AddsRefused plan.now probed.now.version before.now sample.now places
         (length sample.now) report.old.items report.new.items result }
-    ensures len { array_vec_len report.new ≤ 29832 }
+    ensures len { array_vec_len report.new ≤ stopped_width }
 {
     let mut is_ours = false;
     for place in 0..sample.len() {
