@@ -1,5 +1,5 @@
 -- A sample of one change: it has one order.
-use Rattle.std.proofs.Common.{◌≡◌, ◌∙◌, ◌<◌, ◌≤◌, ℕ, zero, suc, Bool, true, false, List, [], ◌∷◌, ◌++◌, length, refl, sym, ap, subst, arith}
+use Rattle.std.proofs.Common.{◌≡◌, ◌∙◌, ◌<◌, ℕ, true, false, List, [], ◌∷◌, ◌++◌, refl, sym, ap, subst, arith}
 use Rattle.std.specs.Prelude.{Option, Some, None, option_map}
 use Rattle.std.specs.List.{slice_get}
 use Rattle.std.proofs.lemmas.Option.{slice_get_within}
@@ -23,11 +23,10 @@ use Rattle.vme_standings.proofs.JoinedHidden.{moved_covers, unseen_covered}
 use Rattle.vme_standings.proofs.JoinedRows.{seen_step, somebody}
 use Rattle.vme_standings.proofs.Tests.{never}
 use Rattle.vme_samples.specs.declared.samples.SeenChange.{SeenChange}
-use Rattle.vme_samples.specs.Orders.{AreInOrder, AreNamed, CoversHidden, IsOrderOf, set_of}
+use Rattle.vme_samples.specs.Orders.{AreNamed, CoversHidden, IsOrderOf, set_of}
 use Rattle.vme_samples.specs.Places.{has_place}
-use Rattle.vme_samples.specs.Samples.{comes_next}
 use Rattle.vme_samples.proofs.Following.{unseen_leaves}
-use Rattle.vme_samples.proofs.Next.{Next, next_of}
+use Rattle.vme_samples.proofs.Next.{next_of}
 use Rattle.vme_samples.proofs.OneMore.{none_in, with_here}
 
 -- ---- its order

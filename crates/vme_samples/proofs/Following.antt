@@ -1,6 +1,6 @@
 -- Sample by sample: what is known behind them covers every list of edges that shows the changes of
 -- each in an order of its own.
-use Rattle.std.proofs.Common.{◌≡◌, ◌∙◌, ◌<◌, ℕ, List, [], ◌∷◌, ◌++◌, length, take, refl, sym, ap, subst, append_assoc}
+use Rattle.std.proofs.Common.{◌≡◌, ◌∙◌, ◌<◌, List, [], ◌∷◌, ◌++◌, length, take, refl, sym, ap, subst, append_assoc}
 use Rattle.std.specs.Prelude.{Option, Some, None}
 use Rattle.vme_model.specs.Accepted.{IsAccepted}
 use Rattle.vme_model.specs.Plan.{Plan}
@@ -14,9 +14,8 @@ use Rattle.vme_captures.specs.Possible.{AgreeEach, Sighting, sightings, with_sig
 use Rattle.vme_standings.specs.declared.standings.Probed.{Probed}
 use Rattle.vme_standings.specs.declared.standings.Standings.{Standings}
 use Rattle.vme_standings.specs.Covers.{AreProbed}
-use Rattle.vme_standings.specs.Hidden.{HasMoved}
 use Rattle.vme_samples.specs.declared.samples.SeenChange.{SeenChange}
-use Rattle.vme_samples.specs.Orders.{AreOrdersOf, CoversHidden, FollowSamples, ShowsIn, all_of}
+use Rattle.vme_samples.specs.Orders.{AreOrdersOf, CoversHidden, FollowSamples, all_of}
 use Rattle.vme_samples.specs.Ways.{AreWays, Gathered, Known}
 use Rattle.vme_samples.proofs.Reached.{same_known}
 use Rattle.vme_samples.proofs.Walk.{order_gathered}

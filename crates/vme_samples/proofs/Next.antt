@@ -7,7 +7,6 @@ use Rattle.std.proofs.lemmas.Bool.{cases_lt}
 use Rattle.std.proofs.lemmas.Option.{slice_get_within}
 use Rattle.vme_model.proofs.Bools.{and_left, and_right, not_true}
 use Rattle.vme_captures.specs.declared.signals.Signal.{Signal}
-use Rattle.vme_captures.specs.Signals.{is_same_signal}
 use Rattle.vme_standings.proofs.Tests.{is_false, never}
 use Rattle.vme_samples.specs.declared.places.Places.{Places}
 use Rattle.vme_samples.specs.declared.samples.SeenChange.{SeenChange}

@@ -1,7 +1,6 @@
 -- All that is known behind a set of the changes of a sample tells the same of what the probes see.
-use Rattle.std.proofs.Common.{◌≡◌, ◌⊎◌, ◌∙◌, ◌<◌, ◌≤◌, ◌+◌, ◌-◌, ◌^◌, ℕ, zero, suc, Bool, true, false, List, length, inl, inr, refl, sym, ap, subst, arith}
-use Rattle.std.specs.Prelude.{◌&&◌, if◌then◌else◌, Option, Some, None, is_some}
-use Rattle.std.specs.List.{slice_get}
+use Rattle.std.proofs.Common.{◌≡◌, ◌⊎◌, ◌∙◌, ◌<◌, ◌≤◌, ◌+◌, ◌^◌, ℕ, zero, suc, Bool, true, false, List, length, inl, inr, refl, sym, ap, subst, arith}
+use Rattle.std.specs.Prelude.{◌&&◌, Option, Some, None, is_some}
 use Rattle.std.proofs.lemmas.Bool.{cases_lt}
 use Rattle.vme_model.specs.Accepted.{IsAccepted}
 use Rattle.vme_model.specs.Plan.{Plan}
@@ -24,7 +23,7 @@ use Rattle.vme_samples.specs.Samples.{comes_next, is_of}
 use Rattle.vme_samples.specs.Ways.{AreWays, Gathered, Hides, Joins, Known, LedTo, Steps, hidden_behind, may_be_last}
 use Rattle.vme_samples.proofs.Next.{Closed, Next, closed_next, next_of}
 use Rattle.vme_samples.proofs.OneMore.{none_in, same_places, taken_out, with_more, with_other}
-use Rattle.vme_samples.proofs.Said.{count, count_none, said, said_up}
+use Rattle.vme_samples.proofs.Said.{count, count_none, said_up}
 use Rattle.vme_samples.proofs.Tells.{Fits, Tells, data_strobe, is_fall_of, is_of_wire, is_rise_of, one_if, open_cycles, says_fall, says_shown, strobe}
 use Rattle.vme_samples.proofs.TellsNext.{tells_next}
 

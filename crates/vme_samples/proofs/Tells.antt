@@ -1,25 +1,21 @@
 -- What the probes see behind a set of the changes of a sample is the same in whatever order they
 -- were made: the levels, what is shown, and whether DS* has fallen in the cycle.
-use Rattle.std.proofs.Common.{◌≡◌, ◌≢◌, ◌⊎◌, ◌∙◌, ◌<◌, ◌≤◌, ◌+◌, ℕ, zero, suc, Bool, true, false, List, length, inl, inr, refl, sym, ap, subst, arith}
+use Rattle.std.proofs.Common.{◌≡◌, ◌∙◌, ◌+◌, ℕ, Bool, true, false, List, length, refl, sym, ap, arith}
 use Rattle.std.specs.Prelude.{◌==◌, ◌&&◌, if◌then◌else◌, not, Option, Some, None, is_some, unwrap_or}
-use Rattle.std.specs.Int.{bit_at}
 use Rattle.std.specs.List.{slice_get}
 use Rattle.std.specs.Option.{option_map_or}
 use Rattle.std.proofs.lemmas.Bool.Decides.{nat_tests}
 use Rattle.std.proofs.lemmas.Nat.Bits.{bit_at-zero, same_from_bits}
-use Rattle.vme_model.specs.Accepted.{IsAccepted}
 use Rattle.vme_model.specs.Plan.{Plan}
 use Rattle.vme_model.specs.declared.sets.ChainId.{ChainId}
 use Rattle.vme_model.specs.declared.sets.ChainId.TheVariants as chain
 use Rattle.vme_model.specs.declared.signals.Cycle.TheVariants as cycle
-use Rattle.vme_model.proofs.Bools.{and_left, and_right, is_true, not_true, same_number}
+use Rattle.vme_model.proofs.Bools.{is_true}
 use Rattle.vme_bus.specs.declared.sets.SlotSet.{SlotSet}
 use Rattle.vme_bus.specs.Sets.{has}
-use Rattle.vme_captures.specs.declared.signals.Change.{Change}
 use Rattle.vme_captures.specs.declared.signals.Line.{Line}
 use Rattle.vme_captures.specs.declared.signals.Line.TheVariants as line
 use Rattle.vme_captures.specs.declared.signals.Pin.{Pin}
-use Rattle.vme_captures.specs.declared.signals.Segment.{Segment}
 use Rattle.vme_captures.specs.declared.signals.Side.{Side}
 use Rattle.vme_captures.specs.declared.signals.Side.TheVariants.{In, Out}
 use Rattle.vme_captures.specs.declared.signals.Signal.{Signal}
@@ -30,25 +26,20 @@ use Rattle.vme_captures.specs.Levels.{is_line_left_low}
 use Rattle.vme_captures.specs.Signals.{is_same_chain, is_same_pin, is_same_side, is_same_signal}
 use Rattle.vme_captures.specs.Wires.{pin_on, wire_of}
 use Rattle.vme_standings.specs.declared.standings.Drivers.{Drivers}
-use Rattle.vme_standings.specs.declared.standings.Probed.{Probed}
 use Rattle.vme_standings.specs.declared.standings.Shown.{Shown}
 use Rattle.vme_standings.specs.declared.standings.Standings.{Standings}
-use Rattle.vme_standings.specs.Behind.{LinesBehind, LowBehind, shown_behind, shown_of, strobed_behind}
-use Rattle.vme_standings.specs.Covers.{segment_at}
-use Rattle.vme_standings.specs.Driving.{BoardsMake, ControllerMakes, can_end, can_strobe, may_show_value}
+use Rattle.vme_standings.specs.Behind.{shown_behind, shown_of, strobed_behind}
+use Rattle.vme_standings.specs.Driving.{may_show_value}
 use Rattle.vme_standings.specs.Moving.{moved_by, segment_moved}
 use Rattle.vme_standings.specs.Segments.{has_segment}
 use Rattle.vme_standings.specs.Standings.{is_nobody}
 use Rattle.vme_standings.specs.Unions.{SeeAlike}
-use Rattle.vme_standings.proofs.JoinedSegments.{wire_at}
-use Rattle.vme_standings.proofs.Tests.{both, is_false, never}
+use Rattle.vme_standings.proofs.Tests.{both, never}
 use Rattle.vme_samples.specs.declared.places.Places.{Places}
 use Rattle.vme_samples.specs.declared.samples.SeenChange.{SeenChange}
-use Rattle.vme_samples.specs.Places.{has_place, with}
+use Rattle.vme_samples.specs.Places.{has_place}
 use Rattle.vme_samples.specs.Samples.{is_of}
-use Rattle.vme_samples.specs.Ways.{Makes}
-use Rattle.vme_samples.proofs.Next.{Closed, Next, count_kept, count_next, earlier_of, said_before, said_kept, said_next}
-use Rattle.vme_samples.proofs.OneMore.{off_bit, with_here, with_other}
+use Rattle.vme_samples.proofs.OneMore.{off_bit}
 use Rattle.vme_samples.proofs.Said.{count, said}
 
 -- ---- what the changes say

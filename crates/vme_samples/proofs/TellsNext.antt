@@ -1,12 +1,12 @@
 -- What the probes see behind one change of a sample more.
-use Rattle.std.proofs.Common.{◌≡◌, ◌≢◌, ◌⊎◌, ◌∙◌, ◌<◌, ◌≤◌, ◌+◌, ℕ, zero, suc, Bool, true, false, List, length, inl, inr, refl, sym, ap, subst, arith}
+use Rattle.std.proofs.Common.{◌≡◌, ◌∙◌, ◌<◌, ◌+◌, ℕ, Bool, true, false, List, length, refl, sym, ap, subst, arith}
 use Rattle.std.specs.Prelude.{◌==◌, ◌&&◌, if◌then◌else◌, not, Option, Some, None, is_some, unwrap_or}
 use Rattle.std.specs.List.{slice_get}
 use Rattle.std.specs.Option.{option_map_or}
 use Rattle.vme_model.specs.Accepted.{IsAccepted}
 use Rattle.vme_model.specs.Plan.{Plan}
 use Rattle.vme_model.specs.declared.sets.ChainId.{ChainId}
-use Rattle.vme_model.proofs.Bools.{and_left, and_right, is_true, not_true, same_number}
+use Rattle.vme_model.proofs.Bools.{and_left, and_right, not_true, same_number}
 use Rattle.vme_bus.specs.Sets.{has}
 use Rattle.vme_captures.specs.declared.signals.Change.{Change}
 use Rattle.vme_captures.specs.declared.signals.Line.{Line}
@@ -18,18 +18,16 @@ use Rattle.vme_captures.specs.Levels.{is_line_left_low}
 use Rattle.vme_captures.specs.Signals.{is_same_chain, is_same_line, is_same_signal}
 use Rattle.vme_captures.specs.Wires.{pin_on, wire_of}
 use Rattle.vme_captures.proofs.Same.{line_other, line_same, signal_same}
-use Rattle.vme_standings.specs.declared.standings.Drivers.{Drivers}
 use Rattle.vme_standings.specs.declared.standings.Probed.{Probed}
 use Rattle.vme_standings.specs.declared.standings.Shown.{Shown}
 use Rattle.vme_standings.specs.declared.standings.Standings.{Standings}
-use Rattle.vme_standings.specs.Behind.{LinesBehind, LowBehind, shown_behind, shown_of, strobed_behind}
+use Rattle.vme_standings.specs.Behind.{LinesBehind, LowBehind, shown_behind, strobed_behind}
 use Rattle.vme_standings.specs.Covers.{segment_at}
-use Rattle.vme_standings.specs.Driving.{BoardsMake, ControllerMakes, can_end, can_strobe, may_show_value}
+use Rattle.vme_standings.specs.Driving.{BoardsMake, ControllerMakes, can_end, can_strobe}
 use Rattle.vme_standings.specs.Moving.{moved_by}
 use Rattle.vme_standings.specs.Segments.{has_segment}
-use Rattle.vme_standings.specs.Standings.{is_nobody}
 use Rattle.vme_standings.proofs.JoinedSegments.{wire_at}
-use Rattle.vme_standings.proofs.Tests.{both, is_false, never}
+use Rattle.vme_standings.proofs.Tests.{never}
 use Rattle.vme_samples.specs.declared.places.Places.{Places}
 use Rattle.vme_samples.specs.declared.samples.SeenChange.{SeenChange}
 use Rattle.vme_samples.specs.Places.{has_place, with}
@@ -38,7 +36,7 @@ use Rattle.vme_samples.specs.Ways.{Makes}
 use Rattle.vme_samples.proofs.Next.{Closed, Next, count_kept, count_next, earlier_of, said_before, said_kept, said_next}
 use Rattle.vme_samples.proofs.OneMore.{with_here, with_other}
 use Rattle.vme_samples.proofs.Said.{count, said}
-use Rattle.vme_samples.proofs.Tells.{Fits, Tells, able, chain_is, data_strobe, is_fall_of, is_of_wire, is_rise_of, moves_wire, not_nobody, one_if, open_cycles, same_pin, says_fall, says_shown, shown_before, shown_other, shown_pin, shown_strobe, shows, some_shown, strobe, strobed_pin}
+use Rattle.vme_samples.proofs.Tells.{Fits, Tells, able, chain_is, data_strobe, is_fall_of, is_of_wire, is_rise_of, moves_wire, one_if, open_cycles, same_pin, says_fall, says_shown, shown_other, shown_pin, shown_strobe, shows, strobe, strobed_pin}
 
 module _ (p : Plan) (ok : IsAccepted p) (pins : List Pin) (probed : Probed) (sample : List SeenChange) (start : Standings) (set : Places) (i : ℕ) (n : Next sample set i) (closed : Closed sample set)
     (old : Standings) (tells : Tells p sample start set old) where

@@ -23,7 +23,7 @@ use Rattle.vme_captures.specs.declared.signals.Line.TheVariants as line
 use Rattle.vme_captures.specs.declared.signals.Pin.{Pin}
 use Rattle.vme_captures.specs.declared.signals.Segment.{Segment}
 use Rattle.vme_captures.specs.declared.signals.Signal.TheVariants as signal
-use Rattle.vme_captures.specs.Changes.{agrees, are_values_of, differ, is_line_low, is_same_way, line_of, seen, segment_of, signal_on}
+use Rattle.vme_captures.specs.Changes.{agrees, are_values_of, differ, is_same_way, seen, segment_of, signal_on}
 use Rattle.vme_captures.specs.Possible.{AgreeEach, Sighting, sightings, with_sighting}
 use Rattle.vme_captures.specs.Signals.{is_same_signal}
 use Rattle.vme_captures.specs.Wires.{pin_on, wire_of}
@@ -32,9 +32,8 @@ use Rattle.vme_standings.specs.declared.standings.Drivers.{Drivers}
 use Rattle.vme_standings.specs.declared.standings.Probed.{Probed}
 use Rattle.vme_standings.specs.declared.standings.Shown.{Shown}
 use Rattle.vme_standings.specs.declared.standings.Standings.{Standings}
-use Rattle.vme_standings.specs.Covers.{AreProbed, Among, Covers, KnowsShown}
+use Rattle.vme_standings.specs.Covers.{AreProbed, Among, Covers}
 use Rattle.vme_standings.specs.Driving.{AreDrivers}
-use Rattle.vme_standings.specs.Hidden.{HasMoved}
 use Rattle.vme_standings.specs.Standings.{is_nobody}
 use Rattle.vme_standings.proofs.JoinedHidden.{moved_covers, unseen_covered}
 use Rattle.vme_standings.proofs.JoinedLevels.{seen_turned}
@@ -42,14 +41,14 @@ use Rattle.vme_standings.proofs.JoinedRows.{seen_step, somebody}
 use Rattle.vme_standings.proofs.JoinedSegments.{no_line}
 use Rattle.vme_standings.proofs.SeenEdges.{segment_is, signal_is}
 use Rattle.vme_standings.proofs.SeenLines.{differs}
-use Rattle.vme_standings.proofs.Tests.{both, is_false, never}
+use Rattle.vme_standings.proofs.Tests.{both, never}
 use Rattle.vme_standings.proofs.UnionCovers.{first_covers, second_covers}
 use Rattle.vme_samples.specs.declared.places.Places.{Places}
 use Rattle.vme_samples.specs.declared.samples.SeenChange.{SeenChange}
 use Rattle.vme_samples.specs.Orders.{AreInOrder, AreNamed, CoversHidden, ShowsIn, all_of, set_of}
 use Rattle.vme_samples.specs.Places.{has_place, with, without}
 use Rattle.vme_samples.specs.Samples.{comes_next, is_of}
-use Rattle.vme_samples.specs.Ways.{AreAmong, AreMakers, AreOf, AreWays, Gathered, Hides, Joins, Known, LedTo, Steps, hidden_behind, is_reaching, may_be_last, reaching_at}
+use Rattle.vme_samples.specs.Ways.{AreAmong, AreMakers, AreOf, AreWays, Gathered, Hides, Joins, Known, LedTo, Steps, hidden_behind, reaching_at}
 use Rattle.vme_samples.proofs.Next.{Next, earlier_of, next_of, said_before}
 use Rattle.vme_samples.proofs.OneMore.{all_in, none_in, same_places, taken_out, with_here, with_more, with_near, with_other}
 use Rattle.vme_samples.proofs.Reached.{AllFit, BeforeTold, Told, fits_before, gathered_told, led_told, moved_behind, reached_told, same_known}

@@ -1,8 +1,7 @@
 -- The changes of a sample, in the order of the capture.
-use Rattle.std.specs.Prelude.{◌&&◌, ◌||◌, ◌-◌, not, ℕ, zero, suc, Bool, true, false, List, [], ◌∷◌, Option, nat_le, length}
+use Rattle.std.specs.Prelude.{◌&&◌, ◌-◌, not, ℕ, zero, suc, Bool, true, false, List, Option, nat_le, length}
 use Rattle.std.specs.List.{list_all, slice_get}
 use Rattle.std.specs.Option.{option_map_or}
-use Rattle.vme_captures.specs.declared.signals.Change.{Change}
 use Rattle.vme_captures.specs.declared.signals.Signal.{Signal}
 use Rattle.vme_captures.specs.Signals.{is_change, is_same_signal}
 use Rattle.vme_samples.specs.declared.places.Places.{Places}

@@ -1,4 +1,4 @@
-use Rattle.std.proofs.Common.{◌≡◌, ◌+◌, ◌≤◌, ◌<◌, ◌^◌, ℕ, length, refl, arith}
+use Rattle.std.proofs.Common.{◌≡◌, ◌^◌, length, refl, arith}
 use Rattle.std.proofs.Math.Pow.{pow_pos}
 use Rattle.vme_samples.proofs.Furthest.{few_sets}
 use Rattle.vme_samples.proofs.Kept.{all_filled, first_filled, one_filled}

@@ -1,4 +1,3 @@
-use Rattle.std.proofs.Common.{◌<◌}
 use Rattle.vme_samples.proofs.Kept.{IsFilled}
 use Rattle.vme_samples.proofs.ways.Ways.fill.Given as goal
 

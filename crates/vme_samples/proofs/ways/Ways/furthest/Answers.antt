@@ -1,4 +1,4 @@
-use Rattle.std.proofs.Common.{◌≡◌, ◌+◌, ◌≤◌, ◌<◌, ◌^◌, ℕ, true, false, refl, sym, subst, arith}
+use Rattle.std.proofs.Common.{◌≡◌, ◌+◌, ◌^◌, true, false, refl, sym, subst, arith}
 use Rattle.std.proofs.Math.Pow.{pow_pos}
 use Rattle.vme_standings.proofs.Tests.{never}
 use Rattle.vme_samples.proofs.Furthest.{IsBest, all_best, farther_best, few_sets, first_best, same_best}

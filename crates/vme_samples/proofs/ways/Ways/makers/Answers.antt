@@ -1,7 +1,7 @@
-use Rattle.std.proofs.Common.{◌≡◌, ◌∙◌, ◌+◌, ◌-◌, ◌<◌, ◌≤◌, ℕ, List, length, refl, sym, ap, subst, arith}
+use Rattle.std.proofs.Common.{◌∙◌, ◌-◌, length, ap, subst, arith}
 use Rattle.vme_samples.specs.Makers.{AreNoted, by_at}
 use Rattle.vme_samples.specs.Ways.{Known}
-use Rattle.vme_samples.proofs.Towards.{all_done, none_yet, set_done}
+use Rattle.vme_samples.proofs.Towards.{all_done, set_done}
 use Rattle.vme_samples.proofs.ways.Ways.makers.Goals as goal
 
 pub loop-back-preserved : goal.loop-back-preserved

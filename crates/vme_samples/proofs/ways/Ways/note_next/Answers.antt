@@ -1,5 +1,4 @@
-use Rattle.std.proofs.Common.{◌≡◌, refl}
-use Rattle.vme_samples.proofs.Towards.{none_noted, one_noted}
+use Rattle.vme_samples.proofs.Towards.{one_noted}
 use Rattle.vme_samples.proofs.ways.Ways.note_next.Goals as goal
 
 pub loop-place-preserved : goal.loop-place-preserved
