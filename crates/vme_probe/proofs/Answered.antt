@@ -1,8 +1,7 @@
 -- What a reading of a capture leaves: `probes`.
-use Rattle.std.proofs.Common.{◌≡◌, ◌⊎◌, ◌∙◌, ◌<◌, ◌≤◌, ◌++◌, ◌∷◌, [], ℕ, zero, suc, Bool, true, false, List, Option, Some, None, Result, Ok, Err, is_some, length, reverse, refl, sym, ap, subst, inl, inr, append-nil, arith}
+use Rattle.std.proofs.Common.{◌≡◌, ◌⊎◌, ◌∙◌, ◌≤◌, ◌++◌, ◌∷◌, [], ℕ, zero, suc, Bool, true, false, List, Option, Some, None, Result, Ok, Err, is_some, length, reverse, refl, sym, ap, subst, inl, inr, append-nil, arith}
 use Rattle.std.specs.Io.KnownBytes.{Appends, Consumes, IsAtEnd, Keeps}
 use Rattle.std.proofs.KnownBytes.{Appends-kept, Appends-nil, Consumes-kept, Consumes-nil}
-use Rattle.std.proofs.lemmas.Bool.{cases_Bool}
 use Rattle.vme_model.specs.declared.signals.Version.{Version}
 use Rattle.vme_model.specs.Plan.{Plan}
 use Rattle.vme_scenario.specs.Format.{scenario}
@@ -15,7 +14,7 @@ use Rattle.vme_captures.specs.declared.CaptureFault.{CaptureFault}
 use Rattle.vme_captures.specs.declared.CaptureFault.TheVariants.{Trace, Earlier, NoPin, SameWire, NotProbed, NoChange, NoLine}
 use Rattle.vme_captures.specs.declared.reader.Reader.{Reader}
 use Rattle.vme_captures.specs.Feeding.{Ended, HasRead, IsFaultAfter}
-use Rattle.vme_captures.specs.Reading.{Reading, read_of}
+use Rattle.vme_captures.specs.Reading.{read_of}
 use Rattle.vme_captures.proofs.Took.{ends_absent, ends_cut, ends_whole, no_version}
 use Rattle.vme_reading.specs.declared.Status.{Status}
 use Rattle.vme_reading.specs.declared.Status.TheVariants.{Done, SomeRefused, Limit}
@@ -30,8 +29,8 @@ use Rattle.vme_probe.specs.declared.probes.Judging.{Judging}
 use Rattle.vme_probe.specs.declared.probes.ProbeFault.{ProbeFault}
 use Rattle.vme_probe.specs.declared.probes.ProbeFault.TheVariants as fault
 use Rattle.vme_probe.specs.Knowing.{HasLines, IsStoppedAtEnd, IsUnbegun, IsWhole}
-use Rattle.vme_probe.specs.Probing.{HasAllLines, IsImpossibleAtEnd, IsJudged, IsOverfullIn, IsPossible, IsToWrite, JudgedBy, LentText, ProbesInput, ProbesText, StopsIn}
-use Rattle.vme_probe.specs.Reads.{EndTaken, IsAt, IsNew, ReadsTo, Taken, skew_of, waiting_in}
+use Rattle.vme_probe.specs.Probing.{HasAllLines, IsImpossibleAtEnd, IsJudged, IsPossible, IsToWrite, JudgedBy, LentText, ProbesInput, ProbesText, StopsIn}
+use Rattle.vme_probe.specs.Reads.{EndTaken, IsAt, IsNew, ReadsTo, Taken, waiting_in}
 use Rattle.vme_probe.specs.Steps.{IsOfEnd, Stands, WholeWritten}
 use Rattle.vme_probe.proofs.Said.{goes_on}
 use Rattle.vme_probe.proofs.Reading.{judged_at_all, nothing_judged}

@@ -34,7 +34,6 @@ use Rattle.vme_captures.specs.Signals.{has_value, is_change, is_same_chain, is_s
 use Rattle.vme_captures.specs.Wires.{input_wire, wire_of, wire_on}
 use Rattle.vme_standings.specs.declared.fronts.Fronts.{Fronts}
 use Rattle.vme_standings.specs.declared.interrupters.Interrupters.TheVariants.{All}
-use Rattle.vme_standings.specs.declared.moving.Moved.{Moved}
 use Rattle.vme_standings.specs.declared.moving.Moved.TheVariants as moved
 use Rattle.vme_standings.specs.declared.segments.Segments.{Segments}
 use Rattle.vme_standings.specs.declared.standings.Drivers.{Drivers}

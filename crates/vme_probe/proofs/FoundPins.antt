@@ -1,5 +1,5 @@
 -- A probe that is found has a pin of a slot.
-use Rattle.std.proofs.Common.{◌≡◌, ◌∙◌, Bool, true, List, Option, Some, None, find, refl, sym}
+use Rattle.std.proofs.Common.{◌≡◌, Bool, true, List, Option, Some, None, find, refl, sym}
 use Rattle.std.specs.Prelude.{IsTrue}
 use Rattle.vme_model.specs.Signals.{is_slot}
 use Rattle.vme_trace.proofs.AllEdges.{find_in, in_all}

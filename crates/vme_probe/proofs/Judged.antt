@@ -1,5 +1,5 @@
 -- What is known and written, one thing that was said after the other.
-use Rattle.std.proofs.Common.{◌≡◌, ◌⊎◌, ◌∙◌, ◌++◌, ◌∷◌, [], ℕ, Bool, true, false, List, Option, Some, None, Result, Ok, Err, is_some, length, refl, sym, ap, subst, inl, inr, append-nil, unwrap_or, arith}
+use Rattle.std.proofs.Common.{◌≡◌, ◌⊎◌, ◌∙◌, ◌++◌, ◌∷◌, [], ℕ, Bool, true, false, List, Option, Some, None, Result, Ok, Err, is_some, length, refl, sym, ap, subst, inl, inr, append-nil, arith}
 use Rattle.std.specs.Io.KnownBytes.{Appends, Keeps}
 use Rattle.std.proofs.KnownBytes.{Appends-trans, Appends-kept, Appends-nil, Keeps-refl}
 use Rattle.vme_model.specs.declared.signals.Version.{Version}
@@ -24,12 +24,12 @@ use Rattle.vme_samples.specs.Samples.{joins}
 use Rattle.vme_probe.specs.declared.probes.ProbeFault.{ProbeFault}
 use Rattle.vme_probe.specs.declared.probes.ProbeFault.TheVariants as fault
 use Rattle.vme_probe.specs.declared.judging.Known.{Known}
-use Rattle.vme_probe.specs.Knowing.{Begins, Begun, CannotBegin, Judged, Stops, StopsAt, StopsNext, TakesNext, Waits, no_beginning, seen_at}
+use Rattle.vme_probe.specs.Knowing.{Begun, Judged, StopsNext, TakesNext, no_beginning, seen_at}
 use Rattle.vme_probe.specs.Lines.{change_line}
 use Rattle.vme_probe.specs.declared.samplings.Sampling.{Sampling}
 use Rattle.vme_probe.specs.Reads.{waiting_in}
 use Rattle.vme_probe.proofs.Said.{all_read, said_stands}
-use Rattle.vme_probe.specs.Steps.{ChangeTaken, EntryTaken, HeadTaken, IsOfChange, IsOfCompleted, IsOfEntry, IsOfSample, NextTaken, Pushed, SampleTaken, SeenTaken, Stands}
+use Rattle.vme_probe.specs.Steps.{EntryTaken, HeadTaken, IsOfChange, IsOfEntry, IsOfSample, NextTaken, Pushed, SampleTaken, SeenTaken, Stands}
 
 none_known : (k : Known) → ◌≡◌ {A = Option Known} None (Some k) → ⊥
 none_known k h = cc

@@ -1,6 +1,5 @@
 -- One line more in a loop over slots or levels: `answers`.
-use Rattle.std.proofs.Common.{◌≡◌, ◌∙◌, ◌+◌, ◌||◌, ◌++◌, ℕ, Bool, List, Option, refl, sym, ap, append_assoc, add-one}
-use Rattle.std.specs.List.{list_all}
+use Rattle.std.proofs.Common.{◌≡◌, ◌∙◌, ◌+◌, ◌||◌, ◌++◌, ℕ, Bool, List, Option, sym, ap, append_assoc, add-one}
 use Rattle.vme_model.specs.declared.signals.Driver.TheVariants.{Slot}
 use Rattle.vme_model.specs.Plan.{Plan}
 use Rattle.vme_captures.specs.declared.signals.Line.TheVariants as line

@@ -1,28 +1,24 @@
 -- A capture is read byte by byte, and judged as it comes.
-use Rattle.std.proofs.Common.{◌≡◌, ◌∙◌, ◌++◌, ◌∷◌, [], ℕ, Bool, true, false, List, Option, Some, None, Result, Ok, Err, reverse, refl, sym, ap, subst, inl, inr, append_assoc, append-nil, drop, take}
-use Rattle.std.specs.Io.KnownBytes.{Appends, Keeps}
-use Rattle.std.proofs.KnownBytes.{Appends-kept}
+use Rattle.std.proofs.Common.{◌≡◌, ◌∙◌, ◌++◌, ◌∷◌, [], ℕ, List, Option, Some, None, Ok, Err, reverse, refl, sym, ap, subst, inl, inr, append_assoc, append-nil}
 use Rattle.std.proofs.lemmas.Option.{same_Some}
 use Rattle.vme_model.specs.declared.signals.Version.{Version}
 use Rattle.vme_model.specs.Plan.{Plan}
-use Rattle.vme_trace.specs.declared.Fault.{Fault}
 use Rattle.vme_trace.specs.declared.Fault.TheVariants as trace
 use Rattle.vme_captures.specs.declared.signals.Change.{Change}
 use Rattle.vme_captures.specs.declared.signals.Entry.{Entry}
 use Rattle.vme_captures.specs.declared.signals.Entry.TheVariants as entry
 use Rattle.vme_captures.specs.declared.CaptureFault.{CaptureFault}
 use Rattle.vme_captures.specs.declared.reader.Reader.{Reader}
-use Rattle.vme_captures.specs.Feeding.{HasRead, IsFaultAfter, Took}
-use Rattle.vme_captures.specs.Reading.{Reading, read_of}
+use Rattle.vme_captures.specs.Feeding.{HasRead, IsFaultAfter}
+use Rattle.vme_captures.specs.Reading.{read_of}
 use Rattle.vme_reading.specs.declared.Status.{Status}
-use Rattle.vme_reading.specs.declared.Status.TheVariants.{SomeRefused}
 use Rattle.vme_reading.specs.declared.EngineFault.TheVariants as engine
 use Rattle.vme_samples.specs.declared.samples.SeenChange.{SeenChange}
 use Rattle.vme_probe.specs.declared.judging.Known.{Known}
 use Rattle.vme_probe.specs.declared.probes.Judging.{Judging}
 use Rattle.vme_probe.specs.declared.probes.ProbeFault.{ProbeFault}
 use Rattle.vme_probe.specs.declared.probes.ProbeFault.TheVariants as fault
-use Rattle.vme_probe.specs.Knowing.{IsOverfull, Judged, StopsAt}
+use Rattle.vme_probe.specs.Knowing.{Judged, StopsAt}
 use Rattle.vme_probe.specs.Probing.{IsJudged, IsOverfullIn, IsToWrite, JudgedBy, StopsIn}
 use Rattle.vme_probe.specs.Reads.{Fails, IsAt, IsCut, IsFull, IsStopped, Taken, skew_of, waiting_in}
 use Rattle.vme_probe.specs.Steps.{EntryTaken, IsOfEntry, IsOverfullAt, Stands}

@@ -1,5 +1,5 @@
 -- What is written of a sample: `sampled`.
-use Rattle.std.proofs.Common.{◌≡◌, ◌⊎◌, ◌∙◌, ◌<◌, ◌≤◌, ◌+◌, ◌-◌, ◌^◌, ◌++◌, ◌∷◌, [], ℕ, zero, suc, Bool, true, false, List, Option, Some, None, Result, Ok, Err, get_or, length, inl, inr, refl, sym, ap, subst, append-nil, append_assoc, arith, add-one}
+use Rattle.std.proofs.Common.{◌≡◌, ◌⊎◌, ◌∙◌, ◌<◌, ◌≤◌, ◌+◌, ◌-◌, ◌^◌, ◌++◌, ◌∷◌, [], ℕ, Bool, false, List, Option, Some, None, Result, Ok, Err, get_or, length, inl, inr, refl, sym, ap, subst, append-nil, append_assoc, arith, add-one}
 use Rattle.std.specs.Prelude.{◌||◌}
 use Rattle.std.specs.List.{slice_get}
 use Rattle.std.proofs.lemmas.Bool.{cases_lt}
@@ -19,7 +19,7 @@ use Rattle.vme_trace.specs.declared.Fault.{Fault}
 use Rattle.vme_reading.specs.declared.Status.{Status}
 use Rattle.vme_probe.specs.declared.judging.Known.{Known}
 use Rattle.vme_probe.specs.Lines.{change_line}
-use Rattle.vme_probe.specs.Sampled.{AddsRefused, Refuses, RefusesFirst, all_places, placed_line, placed_lines}
+use Rattle.vme_probe.specs.Sampled.{AddsRefused, Refuses, all_places, placed_line, placed_lines}
 use Rattle.vme_probe.specs.Steps.{ChangeTaken, IsOfChange, IsOfSample, SampleTaken, SeveralTaken}
 
 -- the line of one change more

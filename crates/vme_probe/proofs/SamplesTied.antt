@@ -1,10 +1,9 @@
 -- Whoever may have made a change of a sample is named, and a sample behind which nothing is known is
 -- shown by no bus: `sample_laws`.
-use Rattle.std.proofs.Common.{◌≡◌, ◌⊎◌, ◌∙◌, ◌<◌, ◌≤◌, ◌-◌, ◌^◌, ◌++◌, ◌∷◌, [], ℕ, zero, suc, Bool, true, false, List, Option, Some, None, length, take, inl, inr, refl, sym, ap, subst, arith, is_none, is_some, not, append_assoc}
-use Rattle.std.specs.Prelude.{◌&&◌, ◌==◌, if◌then◌else◌}
+use Rattle.std.proofs.Common.{◌≡◌, ◌∙◌, ◌<◌, ◌≤◌, ◌++◌, ◌∷◌, [], ℕ, zero, suc, Bool, true, false, List, Option, Some, None, length, take, refl, sym, ap, subst, arith, append_assoc}
+use Rattle.std.specs.Prelude.{◌==◌}
 use Rattle.std.specs.List.{slice_get}
 use Rattle.std.specs.Option.{option_map_or}
-use Rattle.std.proofs.lemmas.Bool.{and_parts}
 use Rattle.std.proofs.lemmas.Nat.Bits.{bit_at_ones}
 use Rattle.vme_model.specs.Accepted.{IsAccepted}
 use Rattle.vme_model.specs.Plan.{Plan}
@@ -14,8 +13,8 @@ use Rattle.vme_model.specs.declared.signals.Version.{Version}
 use Rattle.vme_captures.specs.declared.signals.Change.{Change}
 use Rattle.vme_captures.specs.declared.signals.Entry.{Entry}
 use Rattle.vme_captures.specs.declared.signals.Entry.TheVariants as entry
-use Rattle.vme_captures.specs.Possible.{AgreeEach, Begins as CaptureBegins, Explains, IsPossible, sightings}
-use Rattle.vme_captures.specs.Reading.{capture_of, changes, is_running, last_moment, pins}
+use Rattle.vme_captures.specs.Possible.{AgreeEach, Begins as CaptureBegins, Explains, sightings}
+use Rattle.vme_captures.specs.Reading.{changes, pins}
 use Rattle.vme_standings.specs.declared.standings.Drivers.{Drivers}
 use Rattle.vme_standings.specs.declared.standings.Probed.{Probed}
 use Rattle.vme_standings.specs.declared.standings.Standings.{Standings}
@@ -24,25 +23,20 @@ use Rattle.vme_standings.specs.Covers.{AreProbed}
 use Rattle.vme_standings.specs.Driving.{AreDrivers}
 use Rattle.vme_standings.specs.Hidden.{HasMoved}
 use Rattle.vme_standings.specs.Standings.{is_nobody}
-use Rattle.vme_standings.proofs.JoinedCaptures.{explained}
 use Rattle.vme_samples.specs.declared.makers.Makers.{Makers}
 use Rattle.vme_samples.specs.declared.samples.SeenChange.{SeenChange}
 use Rattle.vme_samples.specs.Makers.{by_at}
 use Rattle.vme_samples.specs.Orders.{AreNamed, AreOrdersOf, CoversHidden, IsOrderOf, ShowsIn}
 use Rattle.vme_samples.specs.Places.{has_place}
-use Rattle.vme_samples.specs.Samples.{joins}
 use Rattle.vme_samples.specs.Ways.{AreMakers, AreWays, Gathered}
 use Rattle.vme_samples.proofs.Alone.{Alone, alone, single_order}
 use Rattle.vme_samples.proofs.Following.{Splits, legal_before, split}
 use Rattle.vme_samples.proofs.Walk.{order_gathered, order_named}
 use Rattle.vme_probe.specs.declared.judging.Known.{Known}
-use Rattle.vme_probe.specs.Knowing.{Begins, Begun, Judged, StopsSample, TakesSample, Waits, seen_at}
+use Rattle.vme_probe.specs.Knowing.{StopsSample, TakesSample}
 use Rattle.vme_probe.specs.Lines.{change_line}
 use Rattle.vme_probe.specs.Sampled.{all_places, placed_line, placed_lines}
-use Rattle.vme_probe.specs.SampledNaming.{AreAllNamed, IsNeverShown, NamesSamples, in_order, sample_lines, samples, with_change}
-use Rattle.vme_probe.proofs.Judged.{begun}
-use Rattle.vme_probe.proofs.Said.{AllSaid, said_stands}
-use Rattle.vme_probe.proofs.Tied.{Tied, at_head, no_changes}
+use Rattle.vme_probe.specs.SampledNaming.{AreAllNamed, IsNeverShown, in_order, sample_lines}
 
 some_same : {A : Type 0} (a b : A) → ◌≡◌ {A = Option A} (Some a) (Some b) → a ≡ b
 some_same a b h = cc

@@ -1,5 +1,5 @@
 -- The probed pins, as segments of the daisy chains.
-use Rattle.std.specs.Prelude.{◌≡◌, ◌==◌, ◌&&◌, ◌||◌, not, if◌then◌else◌, ℕ, Bool, true, false, List, Option, Some, None, find, nat_lt}
+use Rattle.std.specs.Prelude.{◌≡◌, ◌==◌, ◌&&◌, ◌||◌, not, if◌then◌else◌, ℕ, Bool, false, List, Option, Some, None, find, nat_lt}
 use Rattle.std.specs.Option.{option_map_or}
 use Rattle.vme_model.specs.declared.sets.ChainId.{ChainId}
 use Rattle.vme_captures.specs.declared.reader.Probe.{Probe}

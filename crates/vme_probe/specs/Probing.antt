@@ -8,7 +8,6 @@ use Rattle.vme_trace.specs.declared.Fault.TheVariants as trace
 use Rattle.vme_captures.specs.declared.signals.Change.{Change}
 use Rattle.vme_captures.specs.declared.signals.Entry.{Entry}
 use Rattle.vme_captures.specs.declared.signals.Entry.TheVariants as entry
-use Rattle.vme_captures.specs.declared.CaptureFault.{CaptureFault}
 use Rattle.vme_captures.specs.declared.CaptureFault.TheVariants.{Trace}
 use Rattle.vme_captures.specs.Feeding.{IsFaultAfter}
 use Rattle.vme_captures.specs.Reading.{Reading, read_of}

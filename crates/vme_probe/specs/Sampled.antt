@@ -1,6 +1,6 @@
 -- What is known of the bus behind the changes of a sample, and what is written of them. The changes
 -- of a sample are in the order of the capture.
-use Rattle.std.specs.Prelude.{◌≡◌, ◌<◌, ◌+◌, ◌-◌, ◌^◌, ◌||◌, ◌++◌, ◌∷◌, [], ℕ, zero, suc, Bool, true, false, List, Option, Some, None, length, min}
+use Rattle.std.specs.Prelude.{◌≡◌, ◌+◌, ◌-◌, ◌^◌, ◌||◌, ◌++◌, [], ℕ, zero, suc, Bool, true, false, List, Option, Some, None, length, min}
 use Rattle.std.specs.List.{slice_get}
 use Rattle.vme_model.specs.declared.signals.Version.{Version}
 use Rattle.vme_model.specs.Plan.{Plan}

@@ -1,5 +1,5 @@
 -- What covers the whole bus by one of two standings covers it by their union.
-use Rattle.std.proofs.Common.{◌≡◌, ◌∙◌, ◌⊎◌, sym, ap, subst, true, List, inl, inr}
+use Rattle.std.proofs.Common.{◌≡◌, ◌∙◌, sym, ap, subst, true, List, inl, inr}
 use Rattle.std.specs.Prelude.{is_some}
 use Rattle.vme_model.specs.declared.signals.Edge.{Edge}
 use Rattle.vme_model.specs.declared.signals.Version.{Version}

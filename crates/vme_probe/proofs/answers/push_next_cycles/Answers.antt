@@ -1,9 +1,9 @@
-use Rattle.std.proofs.Common.{◌≡◌, ◌∙◌, ◌+◌, ◌++◌, ◌∷◌, [], List, sym, ap, arith, add-one}
+use Rattle.std.proofs.Common.{◌≡◌, ◌+◌, ◌∷◌, [], sym, ap, arith, add-one}
 use Rattle.std.proofs.lemmas.Bool.Decides.{nat_tests}
 use Rattle.vme_model.specs.declared.signals.Cycle.TheVariants.{Acknowledge}
 use Rattle.vme_captures.specs.declared.signals.Change.{Change}
 use Rattle.vme_captures.specs.declared.signals.Value.TheVariants as value
-use Rattle.vme_probe.specs.Ends.{AddsComing, next_acknowledges, next_cycles, strobe_fall}
+use Rattle.vme_probe.specs.Ends.{next_acknowledges, next_cycles, strobe_fall}
 use Rattle.vme_probe.proofs.Coming.{adds_as, adds_both}
 use Rattle.vme_probe.proofs.answers.push_next_cycles.Goals as goal
 

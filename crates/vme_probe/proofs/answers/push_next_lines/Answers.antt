@@ -1,4 +1,4 @@
-use Rattle.std.proofs.Common.{◌++◌, ◌∷◌, [], List}
+use Rattle.std.proofs.Common.{◌++◌, ◌∷◌, []}
 use Rattle.vme_captures.specs.declared.signals.Line.TheVariants as line
 use Rattle.vme_probe.specs.Ends.{next_interrupts, next_of, next_requests, next_strobes}
 use Rattle.vme_probe.proofs.Coming.{adds_both}

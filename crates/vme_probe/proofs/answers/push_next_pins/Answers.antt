@@ -1,6 +1,6 @@
-use Rattle.std.proofs.Common.{◌≡◌, ◌∙◌, ◌+◌, ◌++◌, ◌∷◌, [], List, Option, sym, ap, arith, add-one}
+use Rattle.std.proofs.Common.{◌≡◌, ◌∙◌, Option, sym, ap, arith, add-one}
 use Rattle.std.proofs.lemmas.Bool.Decides.{nat_tests}
-use Rattle.vme_probe.specs.Ends.{AddsComing, next_of_probe, next_pins, pins_below}
+use Rattle.vme_probe.specs.Ends.{next_of_probe, next_pins, pins_below}
 use Rattle.vme_probe.specs.Pins.{probe_at, segment_at}
 use Rattle.vme_captures.specs.declared.reader.Probe.{Probe}
 use Rattle.vme_captures.specs.Signals.{is_same_segment}

@@ -1,7 +1,7 @@
-use Rattle.std.proofs.Common.{◌≡◌, ◌∙◌, ◌+◌, ◌++◌, ◌∷◌, [], List, sym, ap, arith, add-one}
+use Rattle.std.proofs.Common.{◌≡◌, ◌∷◌, [], sym, ap, arith, add-one}
 use Rattle.std.proofs.lemmas.Bool.Decides.{nat_tests}
 use Rattle.vme_captures.specs.declared.signals.Line.TheVariants as line
-use Rattle.vme_probe.specs.Ends.{AddsComing, next_brs, next_of, next_requests}
+use Rattle.vme_probe.specs.Ends.{next_brs, next_of, next_requests}
 use Rattle.vme_probe.proofs.Coming.{adds_as, adds_both}
 use Rattle.vme_probe.proofs.answers.push_next_requests.Goals as goal
 

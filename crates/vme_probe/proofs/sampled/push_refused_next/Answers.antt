@@ -1,4 +1,4 @@
-use Rattle.std.proofs.Common.{◌≤◌, ◌+◌, ◌*◌, arith}
+use Rattle.std.proofs.Common.{arith}
 use Rattle.std.proofs.lemmas.Option.{slice_get-get_or}
 use Rattle.vme_probe.proofs.SampleLines.{refused_more}
 use Rattle.vme_probe.proofs.sampled.push_refused_next.Goals as goal

@@ -1,4 +1,4 @@
-use Rattle.std.proofs.Common.{◌≡◌, ◌∙◌, ℕ, List, refl, subst, inl, inr, arith}
+use Rattle.std.proofs.Common.{◌∙◌, ℕ, List, refl, subst, inl, inr, arith}
 use Rattle.std.proofs.lemmas.Result.{err_from_is_err_and}
 use Rattle.vme_model.specs.Text.{next_number}
 use Rattle.vme_trace.specs.Writing.{AppendsFront}

@@ -1,4 +1,4 @@
-use Rattle.std.proofs.Common.{◌≤◌, ◌<◌, length, arith}
+use Rattle.std.proofs.Common.{arith}
 use Rattle.vme_probe.proofs.SampleLines.{one_taken, several_taken, single}
 use Rattle.vme_probe.proofs.judging.Known.take_sample.Goals as goal
 

@@ -1,4 +1,3 @@
-use Rattle.std.proofs.Common.{◌≡◌}
 use Rattle.std.proofs.lemmas.Result.{err_from_is_err_and}
 use Rattle.vme_probe.proofs.Answered.{end_fails, named_at_end, stands_at_end, whole_cut, whole_taken}
 use Rattle.vme_probe.proofs.Said.{all_slots_read}

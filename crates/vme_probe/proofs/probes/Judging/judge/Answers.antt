@@ -1,4 +1,3 @@
-use Rattle.std.proofs.Common.{◌≡◌, Ok, Err, refl, subst}
 use Rattle.std.proofs.lemmas.Result.{err_from_is_err_and}
 use Rattle.vme_probe.specs.Reads.{skew_of}
 use Rattle.vme_probe.proofs.Answered.{fault_cut, fault_flushed}

@@ -1,4 +1,4 @@
-use Rattle.std.proofs.Common.{◌≡◌, [], Option, Ok, subst}
+use Rattle.std.proofs.Common.{[], Option, Ok, subst}
 use Rattle.std.proofs.lemmas.Result.{err_from_is_err_and}
 use Rattle.vme_reading.specs.declared.Status.{Status}
 use Rattle.vme_probe.specs.Reads.{ReadTaken, skew_of}

@@ -1,8 +1,6 @@
-use Rattle.std.proofs.Common.{◌≡◌, ◌∷◌, Option, refl}
+use Rattle.std.proofs.Common.{◌∷◌}
 use Rattle.std.proofs.lemmas.Result.{err_from_is_err_and}
 use Rattle.vme_captures.specs.declared.signals.Entry.TheVariants as entry
-use Rattle.vme_probe.specs.declared.judging.Known.{Known}
-use Rattle.vme_probe.specs.Steps.{Stands}
 use Rattle.vme_probe.specs.Reads.{skew_of, waiting_in}
 use Rattle.vme_probe.proofs.Judged.{head_ended, head_fails, moment_later, stands_on}
 use Rattle.vme_probe.proofs.probes.Judging.take_moment.Goals as goal

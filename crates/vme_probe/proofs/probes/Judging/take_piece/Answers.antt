@@ -1,8 +1,7 @@
-use Rattle.std.proofs.Common.{◌≡◌, ◌+◌, ◌++◌, ◌∷◌, [], ℕ, List, Option, Some, Ok, Err, ap, arith, sym, subst, append-nil, drop, get_or, take}
+use Rattle.std.proofs.Common.{◌+◌, ◌++◌, ◌∷◌, [], ℕ, List, Option, Some, Ok, Err, ap, arith, sym, subst, append-nil, drop, get_or, take}
 use Rattle.std.proofs.lemmas.Result.{err_from_is_err_and}
 use Rattle.std.proofs.lemmas.List.{take_all}
 use Rattle.vme_reading.specs.declared.Status.{Status}
-use Rattle.vme_probe.specs.declared.probes.ProbeFault.{ProbeFault}
 use Rattle.vme_probe.specs.Reads.{IsAt, Taken}
 use Rattle.vme_probe.proofs.Pieces.{next_piece, whole_piece}
 use Rattle.vme_probe.proofs.Reading.{fault_on, status_on}

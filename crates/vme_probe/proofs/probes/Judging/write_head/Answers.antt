@@ -1,4 +1,4 @@
-use Rattle.std.proofs.Common.{◌≡◌, ◌∙◌, [], List, Option, None, Ok, refl, sym, subst}
+use Rattle.std.proofs.Common.{◌∙◌, [], List, Option, None, Ok, refl, sym, subst}
 use Rattle.std.proofs.KnownBytes.{Appends-kept, Appends-nil}
 use Rattle.std.proofs.lemmas.Result.{err_from_is_err_and}
 use Rattle.vme_probe.specs.declared.judging.Known.{Known}
