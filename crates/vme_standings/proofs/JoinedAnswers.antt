@@ -255,7 +255,7 @@ module _ (probed : Probed) (p : Plan) (ok : IsAccepted p) (pins : List Pin) (h :
     answering : (boards : SlotSet) → AnswersShown p st val (Some (known.Acknowledge n)) boards → has boards who.slot ≡ true
     answering boards them =
         let same = one_of may.slot may.driver in
-        them who.slot (subst (λ t. 0 < t) (sym same) may.positive) (subst (λ t. t < 22) (sym same) may.near)
+        them who.slot
         ∙ four (is_left_low st on_line.DataStrobe) (may_be st.requests who.slot Pending) (is_reached st.fronts p who.slot) (may_answer_with p n val who.slot) data_low
         (subst (λ t. may_be st.requests t Pending ≡ true) (sym same) may.fact.pending)
         (subst (λ t. is_reached st.fronts p t ≡ true) (sym (one_of at_front.slot at_front.driver)) at_front.fact)

@@ -8,7 +8,7 @@ use Rattle.vme_standings.specs.declared.phases.GrantPhase.TheVariants.{Idle, Gra
 use Rattle.vme_standings.specs.declared.phases.GrantPhases.{GrantPhases}
 use Rattle.vme_standings.specs.Beginnings.{KeepsPhases}
 use Rattle.vme_standings.specs.Grants.{are_alike}
-use Rattle.vme_standings.specs.Phases.{HasExactly, has_phase, is_in_table}
+use Rattle.vme_standings.specs.Phases.{HasExactly, has_bit, has_phase, is_in_table}
 use Rattle.std.proofs.lemmas.Bool.Decides.{nat_tests}
 use Rattle.vme_standings.proofs.Growing.{both}
 
@@ -43,12 +43,22 @@ in_table s test exact (Granting c t) e = exact.granting c t (near c 4 (and_left 
 in_table s test exact (Held b t) e = exact.held b t (near b 22 (and_left (nat_lt b 22) (nat_lt t 22) e)) (place t (and_right (nat_lt b 22) (nat_lt t 22) e))
 in_table s test exact (Expired c t) e = exact.expired c t (near c 4 (and_left (nat_lt c 4) (nat_lt t 22) e)) (place t (and_right (nat_lt c 4) (nat_lt t 22) e))
 
+bit : (t : ℕ) → nat_lt t 32 ≡ true → t < 32
+bit t e = near t 32 e
+
+-- and of each phase for which it has a bit
+pub with_bit : (s : GrantPhases) (test : GrantPhase → Bool) → HasExactly s test → (q : GrantPhase) → has_bit q ≡ true → has_phase s q ≡ test q
+with_bit s test exact (Idle c) e = exact.idle c (near c 4 e)
+with_bit s test exact (Granting c t) e = exact.granting c t (near c 4 (and_left (nat_lt c 4) (nat_lt t 32) e)) (bit t (and_right (nat_lt c 4) (nat_lt t 32) e))
+with_bit s test exact (Held b t) e = exact.held b t (near b 22 (and_left (nat_lt b 22) (nat_lt t 32) e)) (bit t (and_right (nat_lt b 22) (nat_lt t 32) e))
+with_bit s test exact (Expired c t) e = exact.expired c t (near c 4 (and_left (nat_lt c 4) (nat_lt t 32) e)) (bit t (and_right (nat_lt c 4) (nat_lt t 32) e))
+
 -- a cut by a fact keeps the phases in which it is so
 pub cut_keeps : (P : GrantPhase → Type 0) (so : GrantPhase → Bool) (old new : GrantPhases) → HasExactly new (λ q. has_phase old q && so q) → ((q : GrantPhase) → so q ≡ true → P q)
     → ((q : GrantPhase) → P q → so q ≡ true) → KeepsPhases P old new
 cut_keeps P so old new exact so_then then_so = record {
   only = λ q table h.
-      let e = sym (in_table new (λ q. has_phase old q && so q) exact q table) ∙ h in
+      let e = sym (with_bit new (λ q. has_phase old q && so q) exact q table) ∙ h in
       (and_left (has_phase old q) (so q) e, so_then q (and_right (has_phase old q) (so q) e));
   all = λ q table h passes. in_table new (λ q. has_phase old q && so q) exact q table ∙ both (has_phase old q) (so q) h (then_so q passes);
 }

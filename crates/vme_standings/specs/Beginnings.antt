@@ -9,7 +9,7 @@ use Rattle.vme_standings.specs.declared.phases.GrantPhase.{GrantPhase}
 use Rattle.vme_standings.specs.declared.phases.GrantPhases.{GrantPhases}
 use Rattle.vme_standings.specs.Cuts.{is_possible}
 use Rattle.vme_standings.specs.LowSegments.{is_low_in}
-use Rattle.vme_standings.specs.Phases.{has_phase, is_held, is_in_table, no_slots}
+use Rattle.vme_standings.specs.Phases.{has_bit, has_phase, is_held, is_in_table, no_slots}
 
 -- if a probe is on the segment, it is low in the phase exactly if the probe sees it low
 abbrev pub ShowsAt : Plan → ℕ → SlotSet → SlotSet → ℕ → GrantPhase → Type 0
@@ -30,7 +30,7 @@ pub record CanBegin (p : Plan) (version : Version) (requests : BusLevels) (held 
 
 -- the new set has exactly those phases of the old one of which something holds
 pub record KeepsPhases (P : GrantPhase → Type 0) (old new : GrantPhases) : Type 0 where
-  pub only : (q : GrantPhase) → is_in_table q ≡ true → has_phase new q ≡ true
+  pub only : (q : GrantPhase) → has_bit q ≡ true → has_phase new q ≡ true
       → (has_phase old q ≡ true) × P q
   pub all : (q : GrantPhase) → is_in_table q ≡ true → has_phase old q ≡ true → P q
       → has_phase new q ≡ true

@@ -37,7 +37,7 @@ use Rattle.vme_standings.specs.GrantChains.{is_of_level}
 use Rattle.vme_standings.specs.Grants.{IsBehindRequest, are_alike, behind_grant, behind_pass, behind_release, behind_rise, behind_take, is_clear_due}
 use Rattle.vme_standings.specs.Interrupters.{is_meant_at, is_on_low_line}
 use Rattle.vme_standings.specs.Moving.{asked, moved_by}
-use Rattle.vme_standings.specs.Phases.{HasExactly, has_phase, is_held_by}
+use Rattle.vme_standings.specs.Phases.{HasExactly, HoldsBits, has_phase, is_held_by}
 use Rattle.vme_standings.specs.RequestSets.{Accessed, Acknowledged, AnyAccessed, CannotPass, Falls, Passes, Rises}
 use Rattle.vme_standings.specs.Requests.{AreOnLevel, is_on_level}
 use Rattle.vme_standings.specs.Segments.{has_segment}
@@ -208,6 +208,7 @@ pub record IsBehind (p : Plan) (probed : Probed) (old : Standings) (c : Change)
   pub shown : new.shown ≡ shown_behind (moved_by p c.signal) c.fall c.value old.shown
   pub strobed : new.strobed ≡ strobed_behind (moved_by p c.signal) c.fall old.strobed
   pub phases : PhasesBehind p probed.version old (moved_by p c.signal) c.fall c.value new.phases
+  pub bits : HoldsBits new.phases
   pub addressers : AddressersBehind p old (moved_by p c.signal) c.fall c.value new.addressers
   pub answerers : AnswerersBehind p old (moved_by p c.signal) c.fall c.value new.answerers
   pub fronts : FrontsBehind p old (moved_by p c.signal) c.fall c.value new.fronts

@@ -122,9 +122,9 @@ AnswersShown p st v (Some (shown.Access None)) boards =
     ≡ ((is_left_low st line.DataStrobe && not (is_some v))
     && (not (is_left_low st line.Berr) && is_some (board p s)))
 AnswersShown p st v (Some (shown.Acknowledge n)) boards =
-    EachSlot (λ s. has boards s
+    (s : ℕ) → has boards s
     ≡ (is_left_low st line.DataStrobe
-    && (may_be st.requests s Pending && (is_reached st.fronts p s && may_answer_with p n v s))))
+    && (may_be st.requests s Pending && (is_reached st.fronts p s && may_answer_with p n v s)))
 AnswersShown p st v None boards = (s : ℕ) → has boards s ≡ false
 
 abbrev pub AreAnswerers : Plan → Standings → Option Value → SlotSet → Type 0

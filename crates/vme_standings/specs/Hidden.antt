@@ -19,7 +19,7 @@ use Rattle.vme_standings.specs.Driving.{MayPass, is_left_low}
 use Rattle.vme_standings.specs.Fronts.{MovesFronts}
 use Rattle.vme_standings.specs.Interrupters.{SharesLine, is_meant_at, is_on_low_line}
 use Rattle.vme_standings.specs.Moving.{asked}
-use Rattle.vme_standings.specs.Phases.{has_phase}
+use Rattle.vme_standings.specs.Phases.{HoldsBits, has_phase}
 use Rattle.vme_standings.specs.RequestSets.{MovesUnseen}
 use Rattle.vme_standings.specs.Requests.{AreOnLevel, AreShared}
 use Rattle.vme_standings.specs.Slots.{EachSlot}
@@ -85,6 +85,7 @@ pub record HidesPhases (p : Plan) (probed : Probed) (requests : BusLevels)
       → has_phase new q ≡ true → has_phase new r ≡ true
   pub only : (q : GrantPhase) → has_row_for q ≡ true → has_phase new q ≡ true
       → IsReached p probed.version requests probed.segments.grants old q
+  pub bits : HoldsBits new
 
 -- all parts, with the edges that no probe sees
 pub record HasMoved (p : Plan) (probed : Probed) (old new : Standings) : Type 0 where

@@ -37,6 +37,18 @@ is_in_table (Granting c last) = nat_lt c 4 && nat_lt last 22
 is_in_table (Held b first) = nat_lt b 22 && nat_lt first 22
 is_in_table (Expired c first) = nat_lt c 4 && nat_lt first 22
 
+-- A set has a bit for each of these phases: of four levels, of 22 numbers of slots, and of the 32
+-- bits of a set of slots.
+abbrev pub has_bit : GrantPhase → Bool
+has_bit (Idle c) = nat_lt c 4
+has_bit (Granting c last) = nat_lt c 4 && nat_lt last 32
+has_bit (Held b first) = nat_lt b 22 && nat_lt first 32
+has_bit (Expired c first) = nat_lt c 4 && nat_lt first 32
+
+-- it holds no others
+abbrev pub HoldsBits : GrantPhases → Type 0
+HoldsBits s = (q : GrantPhase) → has_phase s q ≡ true → has_bit q ≡ true
+
 -- a board that passes the test holds the bus in the phase
 abbrev pub is_held_by : (ℕ → Bool) → GrantPhase → Bool
 is_held_by test (Held b first) = test b

@@ -23,7 +23,7 @@ use Rattle.vme_standings.specs.GrantChains.{is_of_level}
 use Rattle.vme_standings.specs.Hidden.{AreOnLowLines, AreSharing}
 use Rattle.vme_standings.specs.Interrupters.{is_meant_at}
 use Rattle.vme_standings.specs.Moving.{asked}
-use Rattle.vme_standings.specs.Phases.{HasExactly, has_phase, is_in_table}
+use Rattle.vme_standings.specs.Phases.{HasExactly, HoldsBits, has_bit, has_phase, is_in_table}
 use Rattle.vme_standings.specs.RequestSets.{AllHigh, Unknown}
 use Rattle.vme_standings.specs.Requests.{is_on_level}
 use Rattle.vme_standings.specs.Segments.{has_segment}
@@ -44,6 +44,7 @@ pub record IsPowerUp (p : Plan) (new : Standings) : Type 0 where
   pub shown : new.shown ≡ None
   pub strobed : new.strobed ≡ false
   pub phases : HasExactly new.phases is_first
+  pub bits : HoldsBits new.phases
   pub addressers : (s : ℕ) → has new.addressers s ≡ false
   pub answerers : (s : ℕ) → has new.answerers s ≡ false
   pub fronts : IsWaiting new.fronts
@@ -73,7 +74,7 @@ pub data CannotRun (p : Plan) (probed : Probed) (lines : Levels) (low : Segments
 -- the phases are those in which the bus can begin
 pub record AreBeginnings (p : Plan) (probed : Probed) (lines : Levels) (low : Segments)
     (new : GrantPhases) : Type 0 where
-  pub only : (q : GrantPhase) → is_in_table q ≡ true → has_phase new q ≡ true
+  pub only : (q : GrantPhase) → has_bit q ≡ true → has_phase new q ≡ true
       → CanBegin p probed.version (asked lines) (is_line_left_low lines line.Bbsy)
       probed.segments.grants low.grants q
   pub all : (q : GrantPhase) → is_in_table q ≡ true
@@ -103,6 +104,7 @@ pub record Runs (p : Plan) (probed : Probed) (lines : Levels) (low : Segments)
   pub shown : new.shown ≡ None
   pub strobed : new.strobed ≡ false
   pub phases : AreBeginnings p probed lines low new.phases
+  pub bits : HoldsBits new.phases
   pub addressers : (s : ℕ) → has new.addressers s ≡ false
   pub answerers : (s : ℕ) → has new.answerers s
       ≡ (is_line_left_low lines line.Dtack && is_some (board p s))

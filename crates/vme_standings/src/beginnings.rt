@@ -7,7 +7,7 @@ ghost use Rattle.vme_standings.specs.Beginnings.{CanBegin, KeepsPhases, ShowsAt,
 ghost use Rattle.vme_standings.specs.Cuts.{is_so};
 ghost use Rattle.vme_standings.specs.Grants.{are_alike};
 ghost use Rattle.vme_standings.specs.LowSegments.{is_low_in};
-ghost use Rattle.vme_standings.specs.Phases.{HasExactly, has_phase, is_held, is_in_table, no_slots};
+ghost use Rattle.vme_standings.specs.Phases.{HasExactly, has_bit, has_phase, is_held, is_in_table, no_slots};
 
 use crate::cuts::PhaseFact;
 use crate::phases::GrantPhases;
@@ -59,7 +59,7 @@ impl GrantPhases {
         probed: &[SlotSet; 4],
         low: &[SlotSet; 4],
     ) -> GrantPhases
-        ensures only { (q : PhaseValue) → is_in_table q ≡ true → has_phase result q ≡ true
+        ensures only { (q : PhaseValue) → has_bit q ≡ true → has_phase result q ≡ true
             → CanBegin plan.now version requests is_busy probed.now low.now q }
         ensures all { (q : PhaseValue) → is_in_table q ≡ true
             → CanBegin plan.now version requests is_busy probed.now low.now q

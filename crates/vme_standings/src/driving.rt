@@ -4,8 +4,11 @@ ghost use Rattle.std.specs.Prelude.{◌≡◌, ◌==◌, ◌&&◌, ◌||◌, ◌
 ghost use Rattle.vme_bus.specs.Sets.{has};
 ghost use Rattle.vme_model.specs.Plan.{active, board, grant_chain};
 ghost use Rattle.vme_standings.specs.Driving.{AnswersShown, AreAnswerers, AreStarters, BoardsLetGo, BoardsMake, BoardsPull, CanClear, ControllerMakes, MayPass, PassesShown, can_end, can_rise, can_strobe, can_time_out, is_acknowledged, is_answered, is_board_at, is_under_way, last_place, may_answer_with, may_show_value, nobody_answers};
+ghost use Rattle.vme_standings.specs.declared.requests.Request.TheVariants.{Pending};
+ghost use Rattle.vme_standings.specs.Fronts.{is_reached};
 ghost use Rattle.vme_standings.specs.Grants.{are_alike, is_let_go, is_taken};
 ghost use Rattle.vme_standings.specs.Moving.{is_near};
+ghost use Rattle.vme_standings.specs.RequestSets.{may_be};
 
 use crate::boards::boards;
 use crate::cycle::showers;
@@ -196,6 +199,18 @@ impl Standings {
         self.lines.is_low(Line::Dtack) || self.lines.is_low(Line::Berr)
     }
 
+    /// The boards that may answer an acknowledge of a level, with a status byte or without.
+    fn answering_at(&self, plan: &Plan, level: u8, value: Option<Value>) -> SlotSet
+        ensures { (s : ℕ) → has result s ≡ (may_be self.now.requests s Pending
+            && (is_reached self.now.fronts plan.now s
+            && may_answer_with plan.now level value s)) }
+    {
+        plan.accepted();
+        let able = answering_with(plan, level, value);
+        let near = self.fronts.reached(plan);
+        self.requests.answering(near, able)
+    }
+
     /// The boards that may have made a fall of DTACK*, with a status byte or without.
     pub(crate) fn answerers_with(&self, plan: &Plan, value: Option<Value>) -> SlotSet
         ensures { AreAnswerers plan.now self.now value result }
@@ -210,9 +225,7 @@ impl Standings {
                 row_if(!self.lines.is_low(Line::Berr), boards(plan)),
             ),
             Some(Shown::Acknowledge(level)) => {
-                let able = answering_with(plan, level, value);
-                let reached = self.fronts.reached(plan);
-                row_if(is_strobed, self.requests.answering(reached, able))
+                row_if(is_strobed, self.answering_at(plan, level, value))
             }
             None => SlotSet::NONE,
         }

@@ -3,7 +3,7 @@ ghost use Rattle.std.specs.Prelude.{◌≡◌, ◌==◌, ◌&&◌, ◌||◌, ◌
 ghost use Rattle.vme_bus.specs.Sets.{has};
 ghost use Rattle.vme_standings.specs.declared.phases.GrantPhase.{GrantPhase as PhaseValue};
 ghost use Rattle.vme_standings.specs.declared.phases.GrantPhase.TheVariants.{Held};
-ghost use Rattle.vme_standings.specs.Phases.{ChangesExpired, ChangesGranting, ChangesHeld, ChangesIdle, HasExactly, expired_row, granting_row, has_phase, held_row, is_held, is_held_by, is_idle_at, is_in_table, level_of};
+ghost use Rattle.vme_standings.specs.Phases.{ChangesExpired, ChangesGranting, ChangesHeld, ChangesIdle, HasExactly, HoldsBits, expired_row, granting_row, has_phase, held_row, is_held, is_held_by, is_idle_at, is_in_table, level_of};
 
 use vme_bus::SlotSet;
 
@@ -64,6 +64,12 @@ impl GrantPhases {
             expired: [SlotSet::NONE; 4],
         }
     }
+
+    /// A law: the set holds no phase beyond its bits. The call costs nothing, and gives that fact
+    /// to the prover.
+    pub fn holds_bits(&self)
+        ensures { HoldsBits self.now }
+    {}
 
     /// The set of all phases for which it has a place.
     pub(crate) fn all() -> GrantPhases

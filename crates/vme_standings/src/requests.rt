@@ -2,7 +2,7 @@
 //!
 //! The sets that the calls are handed hold slots of boards with an interrupter: those of a line, or
 //! those of a kind. The request of each of them is a set of its own.
-ghost use Rattle.std.specs.Prelude.{◌≡◌, ◌&&◌, ◌||◌, ◌==◌, ◌<◌, ◌↔◌, ℕ, true, false, not, IsTrue, MatchOption};
+ghost use Rattle.std.specs.Prelude.{◌≡◌, ◌&&◌, ◌||◌, ◌==◌, ◌<◌, ◌≤◌, ◌↔◌, ℕ, true, false, not, IsTrue, MatchOption};
 ghost use Rattle.vme_bus.specs.Sets.{has};
 ghost use Rattle.vme_standings.specs.Slots.{EachSlot};
 ghost use Rattle.vme_standings.specs.RequestSets.{may_be, AllHigh, Unknown, MovesUnseen, Falls, Rises, MayRise, Accessed, AnyAccessed, Acknowledged, pulls, Passes, CannotPass};
@@ -161,8 +161,9 @@ impl Requests {
 
     /// Of the boards that the acknowledge has reached, those of these that may be pending.
     pub fn answering(self, reached: SlotSet, boards: SlotSet) -> SlotSet
-        ensures { EachSlot (λ s.
-            has result s ≡ (has self.pending s && (has reached s && has boards s))) }
+        ensures within { (s : ℕ) → s < 22
+            → has result s ≡ (has self.pending s && (has reached s && has boards s)) }
+        ensures beyond { (s : ℕ) → 22 ≤ s → has result s ≡ false }
     {
         both(self.pending, both(reached, boards))
     }

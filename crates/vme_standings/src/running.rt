@@ -113,12 +113,14 @@ impl Standings {
     pub fn at_power_up(plan: &Plan) -> Standings
         ensures { IsPowerUp plan.now result }
     {
+        let phases = first_phases();
+        phases.holds_bits();
         Standings {
             lines: Levels::high(),
             low: Segments::none(),
             shown: None,
             strobed: false,
-            phases: first_phases(),
+            phases,
             addressers: SlotSet::NONE,
             answerers: SlotSet::NONE,
             fronts: Fronts::waiting(),
@@ -133,6 +135,7 @@ impl Standings {
             (Runs plan.now probed.now lines low) }
     {
         let phases = beginnings(plan, probed, &lines, &low);
+        phases.holds_bits();
         let is_empty = phases.is_empty();
         if is_empty {
             return None;

@@ -128,12 +128,14 @@ impl Standings {
             value,
         } = *change;
         let moved = moved_by(plan, signal);
+        let phases = self.phases_behind(plan, probed.version, moved, fall, value);
+        phases.holds_bits();
         Standings {
             lines: lines_behind(self.lines, signal, fall),
             low: low_behind(plan, self.low, signal, fall),
             shown: self.shown_behind(moved, fall, value),
             strobed: self.strobed_behind(moved, fall),
-            phases: self.phases_behind(plan, probed.version, moved, fall, value),
+            phases,
             addressers: self.addressers_behind(plan, moved, fall, value),
             answerers: self.answerers_behind(plan, moved, fall, value),
             fronts: self.fronts_behind(plan, moved, fall, value),

@@ -4,7 +4,7 @@ ghost use Rattle.vme_bus.specs.Sets.{has};
 ghost use Rattle.vme_model.specs.Signals.{is_two};
 ghost use Rattle.vme_standings.specs.declared.phases.GrantPhase.{GrantPhase as PhaseValue};
 ghost use Rattle.vme_standings.specs.GrantChains.{is_of_level, place_before};
-ghost use Rattle.vme_standings.specs.Phases.{has_phase, is_idle_at};
+ghost use Rattle.vme_standings.specs.Phases.{HoldsBits, has_phase, is_idle_at};
 ghost use Rattle.vme_standings.specs.Unseen.{IsReached, IsRound, ReachesLevel, RisesAllHeld, RisesHeld, Walks, falls_unseen, has_row_for, is_first, is_idle_alike, is_last, is_over, is_unseen, leads, rises_unseen};
 
 use crate::chains::{end_place, followers, is_of_level, place_before, requester_at};
@@ -290,6 +290,7 @@ pub fn with_unseen(
         → has_phase result q ≡ true → has_phase result r ≡ true }
     ensures only { (q : PhaseValue) → has_row_for q ≡ true → has_phase result q ≡ true
         → IsReached plan.now version requests probed.now phases.now q }
+    ensures bits { HoldsBits result }
 {
     plan.accepted();
     let mut reached = with_held(plan, probed, phases);
@@ -299,8 +300,10 @@ pub fn with_unseen(
         let is_closed = is_idle_alike(&next, &reached);
         reached = next;
         if is_closed {
+            reached.holds_bits();
             return reached;
         }
     }
+    reached.holds_bits();
     reached
 }
