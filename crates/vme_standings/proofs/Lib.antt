@@ -2,6 +2,8 @@
 pub mod Slots
 -- a set that takes in one slot after the other
 pub mod Growing
+-- A set of phases holds none beyond its bits.
+pub mod PhaseBits
 -- the rows of a set of phases that are put in one after the other
 pub mod Rows
 -- tests of sets that hold and fail: `Requests::falls`, `acknowledged`, `passed`
