@@ -207,8 +207,7 @@ module _ (p : Plan) (ok : IsAccepted p) (version : Version) (st : Standings) (fi
       → is_left_low st line.DataStrobe ≡ true → (i.level == n) ≡ true → has st.fronts.ends (input_place p s) ≡ true → may_be st.requests s request.Pending ≡ true → may_answer_with p n x s ≡ true
       → has boards s ≡ true
   answers n s x i boards who stands found low on reached pending may =
-      let near = near_slot p ok s (λ r. true) (there s stands) in
-      who s near.0 near.1 ∙ both _ _ low (both _ _ pending (both _ _ (both _ _ (meant All s i found refl) reached) may))
+      who s ∙ both _ _ low (both _ _ pending (both _ _ (both _ _ (meant All s i found refl) reached) may))
 
   -- the requests, with the first conditions of an answer
   pending_of : (n s : ℕ) (i : InterrupterRow) (ds : List Demand) → is_some (board p s) ≡ true → interrupter_at p s ≡ Some i → (i.level == n) ≡ true

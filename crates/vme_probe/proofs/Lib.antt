@@ -42,8 +42,16 @@ pub mod ChainBehind
 pub mod GrantsKept
 -- and stays so with the edges that no probe sees: `hindered_laws`
 pub mod GrantsHidden
+-- and behind a change that somebody may have made: `hindered_laws`
+pub mod GrantsBehind
 -- what stands in the way of any change: `hindered_laws`
 pub mod AllHindered
+-- what is known behind a capture fits together: `led_laws`
+pub mod Leading
+-- the levels that are known are those that were said: `led_laws`
+pub mod SaidLevels
+-- a condition is named for each driver in the text of a capture that is impossible: `led_laws`
+pub mod ToldHindered
 -- what is known of a cycle fits together: `laws`
 pub mod Fitting
 -- the lines of the changes that may come: `answers`

@@ -34,7 +34,7 @@ read_first p bytes said others are =
 pub read_all : (p : Plan) (bytes : List ℕ) (said : List Entry) → (read_of p bytes).entries ≡ reverse said → AllSaid p said
 read_all p bytes said are = read_first p bytes said [] (are ∙ sym (append-nil (reverse said)))
 
-one_more : (e : Entry) (said others : List Entry) → reverse said ++ e ∷ others ≡ reverse (e ∷ said) ++ others
+pub one_more : (e : Entry) (said others : List Entry) → reverse said ++ e ∷ others ≡ reverse (e ∷ said) ++ others
 one_more e said others =
     sym (ap (λ (l : List Entry). l ++ others) (reverse-append (e ∷ []) said) ∙ append_assoc (reverse said) (e ∷ []) others)
 

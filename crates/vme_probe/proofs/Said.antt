@@ -143,6 +143,10 @@ by_length p n before e line false h = by_entry p n before e (entry_of line) h
 pub formed : (p : Plan) (before : List Entry) (e : Entry) → SaidBy p before e → is_entry e ≡ true
 formed p before e s = entry_formed s.line e (by_length p s.n before e s.line (is_too_long s.line) s.says).0
 
+-- it has no fault there
+pub no_fault_at : (p : Plan) (before : List Entry) (e : Entry) (s : SaidBy p before e) → fault_at p s.n before e ≡ None
+no_fault_at p before e s = (by_length p s.n before e s.line (is_too_long s.line) s.says).1
+
 may : (p : Plan) (n : ℕ) (before : List Entry) (e : Entry) (b : Bool) → may_stand before e ≡ b → fault_at p n before e ≡ None → may_stand before e ≡ true
 may p n before e true is h = is
 may p n before e false is h = absurd (no_fault n (rw is at h))

@@ -37,7 +37,7 @@ read_first p bytes said others are =
     later p (reverse others) said (subst (λ (l : List Entry). AllSaid p l) is (all_said p bytes))
 
 -- nothing waits
-none_wait : (p : Plan) (v : Version) (said : List Entry) (known : Option Known) (waits : List SeenChange) (text : List ℕ) → Judged p v None said known waits text → waits ≡ []
+pub none_wait : (p : Plan) (v : Version) (said : List Entry) (known : Option Known) (waits : List SeenChange) (text : List ℕ) → Judged p v None said known waits text → waits ≡ []
 none_wait p v [] known waits text h = h.1
 none_wait p v (entry.Pin q ∷ said) known waits text h = none_wait p v said known waits text h
 none_wait p v (entry.Running ∷ said) known waits text h = none_wait p v said known waits text h

@@ -29,6 +29,8 @@ pub mod Holding
 pub mod Hindered
 -- believe: what is known of BBSY* and the daisy chains fits together
 pub mod ChainsFit
+-- believe: what is known behind a capture, and what is printed of a change that is refused
+pub mod Led
 -- words: the probed pins, as segments of the daisy chains
 pub mod Pins
 -- words: what the parts of a judgement do

@@ -11,6 +11,7 @@ mod grant_conditions;
 pub mod hindered_laws;
 mod judging;
 pub mod laws;
+pub mod led_laws;
 mod left;
 mod lines;
 mod obstacles;
