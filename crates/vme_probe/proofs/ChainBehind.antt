@@ -4,9 +4,7 @@ use Rattle.std.proofs.lemmas.Bool.{and_parts, cases_Bool}
 use Rattle.std.proofs.lemmas.Bool.Decides.{nat_tests}
 use Rattle.std.proofs.lemmas.Nat.Bits.{bit_at-lt, bit_at-suc, bit_at-zero, bit_at_lowest}
 use Rattle.std.specs.Int.{bit_at}
-use Rattle.std.specs.Option.{option_map_or}
 use Rattle.std.specs.Prelude.{nat_lt, nat_le, ◌==◌, if◌then◌else◌, unwrap_or}
-use Rattle.vme_model.specs.declared.boards.Row.{Row}
 use Rattle.vme_model.specs.declared.sets.ChainId.{ChainId}
 use Rattle.vme_model.specs.declared.sets.ChainId.TheVariants.{Bg0, Bg1, Bg2, Bg3, Iack}
 use Rattle.vme_model.specs.Accepted.{IsAccepted}
@@ -36,13 +34,13 @@ use Rattle.vme_standings.specs.declared.standings.Standings.{Standings}
 use Rattle.vme_standings.specs.Behind.{FrontsAnswered, FrontsBehind, FrontsPassed, FrontsTimedOut, IsBehind, LinesBehind, shown_behind}
 use Rattle.vme_standings.specs.Driving.{AnswersShown, AreDrivers, AreStarters, BoardsMake, ControllerMakes, PassesShown, can_time_out, is_board_at, is_left_low, is_no_slot, is_under_way, last_place, nobody_answers}
 use Rattle.vme_standings.specs.Fronts.{EndsAt, IsWaiting, input_place, is_reached, may_fall_at}
-use Rattle.vme_standings.specs.Interrupters.{is_meant_at}
+use Rattle.vme_standings.specs.Interrupters.{is_meant, is_meant_at}
 use Rattle.vme_standings.specs.Moving.{moved_by, segment_moved}
 use Rattle.vme_standings.specs.RequestSets.{may_be}
-use Rattle.vme_standings.specs.Standings.{drives, is_nobody}
+use Rattle.vme_standings.specs.Standings.{is_nobody}
 use Rattle.vme_standings.proofs.Slots.{input_near, wire_near}
 use Rattle.vme_standings.proofs.Tests.{both, is_false, never}
-use Rattle.vme_probe.specs.ChainsFit.{AcknowledgeFits, HaveTheLine, may_end_at}
+use Rattle.vme_probe.specs.ChainsFit.{AcknowledgeFits, may_end_at}
 use Rattle.vme_probe.specs.Demands.{is_chain_low}
 use Rattle.vme_probe.proofs.ChainKept.{EndsFit, below_last, input_below, same_side}
 use Rattle.vme_probe.proofs.Fitting.{pin_shows}
@@ -112,10 +110,9 @@ module _ (p : Plan) (ok : IsAccepted p) (probed : Probed) (old : Standings) (may
   input_of : (s : ℕ) → 0 < s → s < 22 → input_place p s < 22
   input_of s from near = let less = input_below p ok s from in omega (arith, less, near)
 
-  answered : (v : Option Value) (x : Option Shown) → old.shown ≡ x → (new : Fronts) → may.controller ≡ false → AnswersShown p old v old.shown may.boards
-      → ((s : ℕ) → has may.boards s ≡ true → is_some (board p s) ≡ true) → FrontsAnswered p old v x new
+  answered : (v : Option Value) (x : Option Shown) → old.shown ≡ x → (new : Fronts) → may.controller ≡ false → AnswersShown p old v old.shown may.boards → FrontsAnswered p old v x new
       → is_some x ≡ true → EndsFit probed old.low.acknowledge new
-  answered v (Some (shown.Acknowledge n)) is new controller boards there h some = record {
+  answered v (Some (shown.Acknowledge n)) is new controller boards h some = record {
     some = found by;
     each = front_is;
   }
@@ -126,28 +123,27 @@ module _ (p : Plan) (ok : IsAccepted p) (probed : Probed) (old : Standings) (may
       mine : AnswersShown p old v (Some (shown.Acknowledge n)) may.boards
       mine = subst (λ x. AnswersShown p old v x may.boards) is boards
 
-      stands : (o : Option Row) → is_some o ≡ true → option_map_or (λ r. true) o false ≡ true
-      stands None e = e
-      stands (Some r) e = refl
-
       found : ((may.controller ≡ true) ⊎ ((s : ℕ) × (has may.boards s ≡ true))) → (front : Option ℕ) × (may_end_at new front ≡ true)
       found (inl c) = absurd (never may.controller c controller)
       found (inr s) =
-          let near = near_slot p ok s.0 (λ r. true) (stands (board p s.0) (there s.0 s.1)) in
-          let ends = h.2.all s.0 near.0 near.1 (of s.0 near.0 near.1 ∙ (sym (mine s.0 near.0 near.1) ∙ s.1)) in
+          let k = and_parts (is_left_low old line.DataStrobe) _ (sym (mine s.0) ∙ s.1) in
+          let l = and_parts (may_be old.requests s.0 request.Pending) _ k.1 in
+          let m = and_parts (is_reached old.fronts p s.0) _ l.1 in
+          let near = near_slot p ok s.0 (is_meant All) (and_parts (is_meant_at All p s.0) (has old.fronts.ends (input_place p s.0)) m.0).0 in
+          let ends = h.2.all s.0 near.0 near.1 (of s.0 ∙ (sym (mine s.0) ∙ s.1)) in
           (Some (input_place p s.0), both (nat_lt (input_place p s.0) 22) (has new.ends (input_place p s.0)) (below_last (input_place p s.0) (input_of s.0 near.0 near.1)) ends)
 
       front_is : (front : Option ℕ) → may_end_at new front ≡ true → (s : ℕ) → s < 22 → has probed.segments.acknowledge s ≡ true → is_chain_low front s ≡ has old.low.acknowledge s
       front_is None waits s near seen = absurd (never new.waiting waits h.2.waiting)
       front_is (Some e) ends s near seen =
           let r = h.2.only e (and_parts (nat_lt e 22) (has new.ends e) ends).1 in
-          let k = and_parts (is_left_low old line.DataStrobe) _ (sym (of r.0 r.1 r.2) ∙ r.3) in
+          let k = and_parts (is_left_low old line.DataStrobe) _ (sym (of r.0) ∙ r.3) in
           let l = and_parts (may_be old.requests r.0 request.Pending) _ k.1 in
           let m = and_parts (is_reached old.fronts p r.0) _ l.1 in
           let reached = (and_parts (is_meant_at All p r.0) (has old.fronts.ends (input_place p r.0)) m.0).1 in
           ap (λ k. nat_le s k) r.4 ∙ old_end (ap is_some is) (input_place p r.0) (input_of r.0 r.1 r.2) reached s near seen
-  answered v None is new controller boards there h some = absurd (never false some refl)
-  answered v (Some (shown.Access t)) is new controller boards there h some = same_fronts (ap is_some is) new h
+  answered v None is new controller boards h some = absurd (never false some refl)
+  answered v (Some (shown.Access t)) is new controller boards h some = same_fronts (ap is_some is) new h
 
   timed_out : (x : Option Shown) → old.shown ≡ x → (new : Fronts) → may.controller ≡ can_time_out p old → ((s : ℕ) → has may.boards s ≡ false) → FrontsTimedOut p old x new → is_some x ≡ true
       → EndsFit probed old.low.acknowledge new
@@ -173,14 +169,13 @@ module _ (p : Plan) (ok : IsAccepted p) (probed : Probed) (old : Standings) (may
   timed_out (Some (shown.Access t)) is new controller boards h some = same_fronts (ap is_some is) new h
 
   ends_line : (l : Line) (fall : Bool) (v : Option Value) (new : Fronts) → ControllerMakes p probed.version old (moved.Line l) fall may.controller
-      → BoardsMake p probed.version old (moved.Line l) fall v may.boards
-      → ((s : ℕ) → has may.boards s ≡ true → drives p (moved.Line l) s ≡ true) → FrontsBehind p old (moved.Line l) fall v new → is_some (shown_behind (moved.Line l) fall v old.shown) ≡ true
+      → BoardsMake p probed.version old (moved.Line l) fall v may.boards → FrontsBehind p old (moved.Line l) fall v new → is_some (shown_behind (moved.Line l) fall v old.shown) ≡ true
       → EndsFit probed old.low.acknowledge new
-  ends_line line.AddressStrobe true v new controller boards there h some = begun v new controller boards h
-  ends_line line.AddressStrobe false v new controller boards there h some = absurd (never false some refl)
-  ends_line line.Dtack true v new controller boards there h some = answered v old.shown refl new controller boards there h some
-  ends_line line.Berr true v new controller boards there h some = timed_out old.shown refl new controller boards h some
-  ends_line l fall v new controller boards there h some = same_fronts some new h
+  ends_line line.AddressStrobe true v new controller boards h some = begun v new controller boards h
+  ends_line line.AddressStrobe false v new controller boards h some = absurd (never false some refl)
+  ends_line line.Dtack true v new controller boards h some = answered v old.shown refl new controller boards h some
+  ends_line line.Berr true v new controller boards h some = timed_out old.shown refl new controller boards h some
+  ends_line l fall v new controller boards h some = same_fronts some new h
 
   -- ---- behind a change of a pin
 
@@ -281,15 +276,15 @@ line_cycle p probed old line.AddressStrobe true v lines h fits some = h.set
 line_cycle p probed old line.AddressStrobe false v lines h fits some = absurd (never false some refl)
 line_cycle p probed old l fall v lines h fits some = h.others line.AddressStrobe (not_address l refl) ∙ fits.cycle some
 
-pub behind : (p : Plan) (probed : Probed) (old new : Standings) (c : Change) (may : Drivers) → IsAccepted p → AreDrivers p probed old c may → is_nobody may ≡ false → HaveTheLine p c may
+pub behind : (p : Plan) (probed : Probed) (old new : Standings) (c : Change) (may : Drivers) → IsAccepted p → AreDrivers p probed old c may → is_nobody may ≡ false
     → is_change c ≡ true → IsBehind p probed old c new → AcknowledgeFits p probed old → AcknowledgeFits p probed new
-behind p probed old new c may ok who some there change h fits = by_signal c.signal refl
+behind p probed old new c may ok who some change h fits = by_signal c.signal refl
   where
     by_signal : (x : Signal) → c.signal ≡ x → AcknowledgeFits p probed new
     by_signal (signal.Line l) is =
         let shown_is : new.shown ≡ shown_behind (moved.Line l) c.fall c.value old.shown = (rw is at h.shown) in
         let ends : is_some (shown_behind (moved.Line l) c.fall c.value old.shown) ≡ true → EndsFit probed old.low.acknowledge new.fronts =
-        ends_line p ok probed old may (made may some) fits l c.fall c.value new.fronts (rw is at who.controller) (rw is at who.boards) (rw is at there) (rw is at h.fronts) in
+        ends_line p ok probed old may (made may some) fits l c.fall c.value new.fronts (rw is at who.controller) (rw is at who.boards) (rw is at h.fronts) in
         let low_is : new.low ≡ old.low = (rw is at h.low) in
         record {
           wires = fits.wires;

@@ -44,13 +44,13 @@ use Rattle.vme_standings.specs.Grants.{IsBehindRequest, are_alike, behind_grant,
 use Rattle.vme_standings.specs.InPhase.{is_named}
 use Rattle.vme_standings.specs.LowSegments.{is_in_run, is_low_in, is_segment}
 use Rattle.vme_standings.specs.Moving.{asked, segment_moved}
-use Rattle.vme_standings.specs.Phases.{HasExactly, has_phase, is_held, is_held_by, is_in_table, no_slots}
+use Rattle.vme_standings.specs.Phases.{HasExactly, HoldsBits, has_bit, has_phase, is_held, is_held_by, is_in_table, no_slots}
 use Rattle.vme_standings.specs.Segments.{has_segment}
 use Rattle.vme_standings.specs.Standings.{is_nobody}
 use Rattle.vme_standings.proofs.GrantEdges.{any_of}
 use Rattle.vme_standings.proofs.GrantPlaces.{IsBefore, above_zero, before, board_segment, end_last, end_segment, follower_before, follower_on, has_requester, near, next, segment_near}
 use Rattle.vme_standings.proofs.Tests.{both, is_false, never, or_left, or_true}
-use Rattle.vme_probe.specs.ChainsFit.{AgreesWithProbes, GrantsFit, HoldsBits, has_bit, is_expired}
+use Rattle.vme_probe.specs.ChainsFit.{AgreesWithProbes, GrantsFit, is_expired}
 use Rattle.vme_probe.proofs.ChainBehind.{made}
 use Rattle.vme_probe.proofs.GrantsHidden.{and_same, few_of, from_next, is_few, is_near, up_to_next}
 use Rattle.vme_probe.proofs.Leaving.{or_cases, some_level}
@@ -85,7 +85,7 @@ exactly s test h (Granting c t) bit = let k = and_parts (nat_lt c 4) (nat_lt t 3
 exactly s test h (Held b t) bit = let k = and_parts (nat_lt b 22) (nat_lt t 32) bit in h.held b t (in_slots b k.0) (in_row t k.1)
 exactly s test h (Expired c t) bit = let k = and_parts (nat_lt c 4) (nat_lt t 32) bit in h.expired c t (few_of c k.0) (in_row t k.1)
 
-pub bit_of : (q : GrantPhase) → is_in_table q ≡ true → has_bit q ≡ true
+bit_of : (q : GrantPhase) → is_in_table q ≡ true → has_bit q ≡ true
 bit_of (Idle c) h = h
 bit_of (Granting c t) h = let k = and_parts (nat_lt c 4) (nat_lt t 22) h in both _ _ k.0 (wider t k.1)
 bit_of (Held b t) h = let k = and_parts (nat_lt b 22) (nat_lt t 22) h in both _ _ k.0 (wider t k.1)
@@ -674,12 +674,12 @@ module _ (p : Plan) (ok : IsAccepted p) (probed : Probed) (old new : Standings) 
           ∙ not_four (has (slice_index_or old.low.grants c no_slots) t) c t (unwrap_or (wire_on p Iack s side).place 0) few
 
 pub behind : (p : Plan) (probed : Probed) (old new : Standings) (c : Change) (may : Drivers) → IsAccepted p → AreDrivers p probed old c may → is_nobody may ≡ false
-    → IsBehind p probed old c new → HoldsBits new.phases → GrantsFit p probed old → GrantsFit p probed new
-behind p probed old new c may ok who some h bits fits = by_signal c.signal refl
+    → IsBehind p probed old c new → GrantsFit p probed old → GrantsFit p probed new
+behind p probed old new c may ok who some h fits = by_signal c.signal refl
   where
     by_signal : (x : Signal) → c.signal ≡ x → GrantsFit p probed new
     by_signal (signal.Line l) is =
-        on_line p ok probed old new may (made may some) bits fits (rw is at h.low) l c.fall c.value (rw is at h.lines) (rw is at who.controller) (rw is at who.boards) (rw is at h.phases)
+        on_line p ok probed old new may (made may some) h.bits fits (rw is at h.low) l c.fall c.value (rw is at h.lines) (rw is at who.controller) (rw is at who.boards) (rw is at h.phases)
     by_signal (signal.Pin q) is =
-        on_pin p ok probed old new may (made may some) bits fits (rw is at h.lines) q.slot q.chain q.side c.fall c.value (rw is at h.low)
+        on_pin p ok probed old new may (made may some) h.bits fits (rw is at h.lines) q.slot q.chain q.side c.fall c.value (rw is at h.low)
         (rw is at who.controller) (rw is at who.boards) (rw is at h.phases)

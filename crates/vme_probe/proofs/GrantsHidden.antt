@@ -28,12 +28,12 @@ use Rattle.vme_standings.specs.Hidden.{HasMoved}
 use Rattle.vme_standings.specs.InPhase.{is_named}
 use Rattle.vme_standings.specs.LowSegments.{is_in_run, is_low_in, is_segment}
 use Rattle.vme_standings.specs.Moving.{asked}
-use Rattle.vme_standings.specs.Phases.{has_phase, is_held, is_in_table, no_slots}
+use Rattle.vme_standings.specs.Phases.{has_bit, has_phase, is_held, is_in_table, no_slots}
 use Rattle.vme_standings.specs.Unseen.{IsReached, has_row_for, is_unseen, leads}
 use Rattle.vme_standings.specs.Unseen.IsReached.{Here, Further}
 use Rattle.vme_standings.proofs.GrantPlaces.{IsBefore, board_segment, end_last, follower_before, follower_on, near}
 use Rattle.vme_standings.proofs.Tests.{both, is_false, never}
-use Rattle.vme_probe.specs.ChainsFit.{AgreesWithProbes, GrantsFit, HoldsBits, has_bit, is_expired}
+use Rattle.vme_probe.specs.ChainsFit.{AgreesWithProbes, GrantsFit, is_expired}
 use Rattle.vme_probe.proofs.PhaseLemmas.{of_requester}
 
 -- ---- numbers
@@ -255,10 +255,10 @@ carried p probed old new lines low q fit = record {
   shown = λ c few s to seen. fit.shown c few s to seen ∙ ap (λ l. has (slice_index_or l.grants c no_slots) s) (sym low);
 }
 
-pub hidden : (p : Plan) (probed : Probed) (old new : Standings) → IsAccepted p → HasMoved p probed old new → HoldsBits new.phases → GrantsFit p probed old → GrantsFit p probed new
-hidden p probed old new ok h bits fits = record {
+pub hidden : (p : Plan) (probed : Probed) (old new : Standings) → IsAccepted p → HasMoved p probed old new → GrantsFit p probed old → GrantsFit p probed new
+hidden p probed old new ok h fits = record {
   some = (fits.some.0, h.phases.kept fits.some.0 (row_in fits.some.0 (fits.each fits.some.0 fits.some.1).near) fits.some.1);
   each = λ q there.
       carried p probed old new h.lines h.low q
-      (reached p ok probed old (asked old.lines) old.phases q (h.phases.only q (row_of q (bits q there)) there) fits.each);
+      (reached p ok probed old (asked old.lines) old.phases q (h.phases.only q (row_of q (h.phases.bits q there)) there) fits.each);
 }

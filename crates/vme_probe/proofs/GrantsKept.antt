@@ -32,12 +32,12 @@ use Rattle.vme_standings.specs.Hidden.{HasMoved}
 use Rattle.vme_standings.specs.InPhase.{is_named}
 use Rattle.vme_standings.specs.LowSegments.{is_in_run, is_low_in, is_segment}
 use Rattle.vme_standings.specs.Moving.{asked}
-use Rattle.vme_standings.specs.Phases.{has_phase, is_held, is_in_table, no_slots}
+use Rattle.vme_standings.specs.Phases.{has_bit, has_phase, is_held, is_in_table, no_slots}
 use Rattle.vme_standings.specs.Running.{IsPowerUp, Runs, is_first}
 use Rattle.vme_standings.specs.Unseen.{IsReached, has_row_for, is_unseen, leads}
-use Rattle.vme_standings.proofs.GrantPlaces.{IsBefore, above_zero, board_segment, end_last, follower_before, follower_on, near, one_level, segment_is}
+use Rattle.vme_standings.proofs.GrantPlaces.{IsBefore, above_zero, board_segment, end_last, follower_before, follower_on, near, one_level, segment_is, segment_near}
 use Rattle.vme_standings.proofs.Tests.{both, is_false, never}
-use Rattle.vme_probe.specs.ChainsFit.{AgreesWithProbes, AreInTable, GrantsFit, HoldsBits, has_bit, is_expired}
+use Rattle.vme_probe.specs.ChainsFit.{AgreesWithProbes, GrantsFit, is_expired}
 use Rattle.vme_probe.proofs.PhaseLemmas.{of_requester}
 
 few_of : (n : ℕ) → nat_lt n 4 ≡ true → n < 4
@@ -46,8 +46,8 @@ few_of n h = grind (arith, nat_tests)
 -- ---- at the beginning
 
 -- at power-up level 0 counts as granted last
-pub power_up : (p : Plan) (probed : Probed) (st : Standings) → IsPowerUp p st → HoldsBits st.phases → GrantsFit p probed st
-power_up p probed st is bits = record {
+pub power_up : (p : Plan) (probed : Probed) (st : Standings) → IsPowerUp p st → GrantsFit p probed st
+power_up p probed st is = record {
   some = (Idle 0, is.phases.idle 0 (omega arith));
   each = at;
 }
@@ -64,20 +64,20 @@ power_up p probed st is bits = record {
 
     at : (q : GrantPhase) → has_phase st.phases q ≡ true → AgreesWithProbes p probed st q
     at (Idle n) there = record {
-      near = bits (Idle n) there;
+      near = is.bits (Idle n) there;
       named = refl;
       two = λ h. absurd (never false h refl);
       bbsy = sym (is.lines line.Bbsy);
       shown = λ c few s to seen. none_low c s n ∙ sym (low_is c s few);
     }
     at (Granting c t) there =
-        let k = and_parts (nat_lt c 4) (nat_lt t 32) (bits (Granting c t) there) in
+        let k = and_parts (nat_lt c 4) (nat_lt t 32) (is.bits (Granting c t) there) in
         absurd (never (has_phase st.phases (Granting c t)) there (is.phases.granting c t (few_of c k.0) (in_row t k.1)))
       where
         in_row : (t : ℕ) → nat_lt t 32 ≡ true → t < 32
         in_row t h = grind (arith, nat_tests)
     at (Held b t) there =
-        let k = and_parts (nat_lt b 22) (nat_lt t 32) (bits (Held b t) there) in
+        let k = and_parts (nat_lt b 22) (nat_lt t 32) (is.bits (Held b t) there) in
         absurd (never (has_phase st.phases (Held b t)) there (is.phases.held b t (in_slots b k.0) (in_row t k.1)))
       where
         in_row : (t : ℕ) → nat_lt t 32 ≡ true → t < 32
@@ -86,7 +86,7 @@ power_up p probed st is bits = record {
         in_slots : (t : ℕ) → nat_lt t 22 ≡ true → t < 22
         in_slots t h = grind (arith, nat_tests)
     at (Expired c t) there =
-        let k = and_parts (nat_lt c 4) (nat_lt t 32) (bits (Expired c t) there) in
+        let k = and_parts (nat_lt c 4) (nat_lt t 32) (is.bits (Expired c t) there) in
         absurd (never (has_phase st.phases (Expired c t)) there (is.phases.expired c t (few_of c k.0) (in_row t k.1)))
       where
         in_row : (t : ℕ) → nat_lt t 32 ≡ true → t < 32
@@ -106,13 +106,33 @@ possible_two p version requests (Idle c) h e = absurd (never false e refl)
 possible_two p version requests (Granting c last) h e = absurd (never false e refl)
 possible_two p version requests (Held b first) h e = absurd (never false e refl)
 
-pub running : (p : Plan) (probed : Probed) (lines : Levels) (low : Segments) (st : Standings) → Runs p probed lines low st → AreInTable st.phases → GrantsFit p probed st
-running p probed lines low st is table = record {
+-- so it is one of the slots of a backplane
+possible_near : (p : Plan) → IsAccepted p → (version : Version) (requests : BusLevels) (q : GrantPhase) → has_bit q ≡ true → is_possible p version requests q ≡ true → is_in_table q ≡ true
+possible_near p ok version requests (Idle c) bit h = bit
+possible_near p ok version requests (Granting c last) bit h =
+    both _ _ (and_parts (nat_lt c 4) (nat_lt last 32) bit).0 (below last (segment_near p ok c last (possible_named p version requests (Granting c last) h)))
+  where
+    below : (t : ℕ) → t < 22 → nat_lt t 22 ≡ true
+    below t less = grind (arith, nat_tests)
+possible_near p ok version requests (Held b first) bit h =
+    let near = (and_parts (nat_lt b 22) (nat_lt first 32) bit).0 in
+    both _ _ near (up_to b first near (and_parts (option_map_or (λ q. is_segment p q.level first) (requester_at p b) false) (nat_le first b) h).1)
+  where
+    up_to : (b t : ℕ) → nat_lt b 22 ≡ true → nat_le t b ≡ true → nat_lt t 22 ≡ true
+    up_to b t near most = grind (arith, nat_tests)
+possible_near p ok version requests (Expired c first) bit h =
+    both _ _ (and_parts (nat_lt c 4) (nat_lt first 32) bit).0 (below first (near p ok c first (possible_named p version requests (Expired c first) h)))
+  where
+    below : (t : ℕ) → t < 22 → nat_lt t 22 ≡ true
+    below t less = grind (arith, nat_tests)
+
+pub running : (p : Plan) (probed : Probed) (lines : Levels) (low : Segments) (st : Standings) → IsAccepted p → Runs p probed lines low st → GrantsFit p probed st
+running p probed lines low st ok is = record {
   some = is.some_phase;
   each = λ q there.
-      let can = is.phases.only q (table q there) there in
+      let can = is.phases.only q (is.bits_are q there) there in
       record {
-        near = table q there;
+        near = possible_near p ok probed.version (asked lines) q (is.bits_are q there) can.possible;
         named = possible_named p probed.version (asked lines) q can.possible;
         two = possible_two p probed.version (asked lines) q can.possible;
         bbsy = can.bbsy ∙ ap (λ l. is_line_left_low l line.Bbsy) (sym is.lines_are);

@@ -29,15 +29,14 @@ use Rattle.vme_standings.specs.Segments.{has_segment}
 use Rattle.vme_standings.specs.Standings.{is_nobody}
 use Rattle.vme_standings.proofs.JoinedSegments.{probed_works}
 use Rattle.vme_standings.proofs.Tests.{never}
-use Rattle.vme_probe.specs.ChainsFit.{AllFits, AreInTable, AreOnWires, HaveTheLine, HoldsBits, IsSeen}
+use Rattle.vme_probe.specs.ChainsFit.{AllFits, AreOnWires, IsSeen}
 use Rattle.vme_probe.specs.Hindered.{AreOthersHindered, FitsTogether}
-use Rattle.vme_probe.specs.Led.{AreWithin, HoldsNoMore, IsLed, Leads}
+use Rattle.vme_probe.specs.Led.{IsLed, Leads}
 use Rattle.vme_probe.proofs.AllHindered.{all_hindered}
 use Rattle.vme_probe.proofs.ChainBehind as chain_behind
 use Rattle.vme_probe.proofs.ChainKept as chain_kept
 use Rattle.vme_probe.proofs.Fitting as fitting
 use Rattle.vme_probe.proofs.GrantsBehind as grants_behind
-use Rattle.vme_probe.proofs.GrantsBehind.{bit_of}
 use Rattle.vme_probe.proofs.GrantsHidden as grants_hidden
 use Rattle.vme_probe.proofs.GrantsKept as grants_kept
 use Rattle.vme_probe.proofs.Tied.{no_pin_beyond}
@@ -70,9 +69,8 @@ module _ (p : Plan) (ok : IsAccepted p) (probed : Probed) where
           ap (λ l. has l.acknowledge s) r.known.low_are ∙ r.said.probed Iack s
           ∙ ap (λ (o : Option Pin). option_map_or (λ q. is_among c.lows (signal.Pin q)) o false) (no_pin_beyond p ok c.pins Iack s far)
 
-  starts_fit : (c : Capture) (first : Standings) → AreProbed p c.pins probed.segments → StartsAs p probed c first → AreInTable first.phases
-      → is_among c.lows (signal.Line line.DataStrobe) ≡ false → AllFits p probed first
-  starts_fit c first probes starts table high = by_way c.is_running refl
+  starts_fit : (c : Capture) (first : Standings) → AreProbed p c.pins probed.segments → StartsAs p probed c first → is_among c.lows (signal.Line line.DataStrobe) ≡ false → AllFits p probed first
+  starts_fit c first probes starts high = by_way c.is_running refl
     where
       wires : AreOnWires p probed
       wires = on_wires c.pins probes
@@ -80,49 +78,45 @@ module _ (p : Plan) (ok : IsAccepted p) (probed : Probed) where
       by_way : (b : Bool) → c.is_running ≡ b → AllFits p probed first
       by_way false is = record {
         cycle = fitting.at_power_up p first (starts.power_up is);
-        grants = grants_kept.power_up p probed first (starts.power_up is) (λ q there. bit_of q (table q there));
+        grants = grants_kept.power_up p probed first (starts.power_up is);
         acknowledge = chain_kept.power_up p probed first wires (starts.power_up is);
       }
       by_way true is =
           let r = starts.running is in
           record {
             cycle = runs_fit c first r high;
-            grants = grants_kept.running p probed r.lines r.low first r.known table;
+            grants = grants_kept.running p probed r.lines r.low first ok r.known;
             acknowledge = chain_kept.running p probed r.lines r.low first wires r.known;
           }
 
   -- ---- from there on
 
-  fits_hidden : (old new : Standings) → HasMoved p probed old new → HoldsBits new.phases → AllFits p probed old → AllFits p probed new
-  fits_hidden old new h bits fits = record {
+  fits_hidden : (old new : Standings) → HasMoved p probed old new → AllFits p probed old → AllFits p probed new
+  fits_hidden old new h fits = record {
     cycle = fitting.with_hidden p probed old new h fits.cycle;
-    grants = grants_hidden.hidden p probed old new ok h bits fits.grants;
+    grants = grants_hidden.hidden p probed old new ok h fits.grants;
     acknowledge = chain_kept.hidden p ok probed old new h fits.acknowledge;
   }
 
-  fits_behind : (old new : Standings) (c : Change) (may : Drivers) → AreDrivers p probed old c may → is_nobody may ≡ false → is_change c ≡ true → IsBehind p probed old c new → HaveTheLine p c may
-      → HoldsBits new.phases → AllFits p probed old → AllFits p probed new
-  fits_behind old new c may who some change h there bits fits = record {
+  fits_behind : (old new : Standings) (c : Change) (may : Drivers) → AreDrivers p probed old c may → is_nobody may ≡ false → is_change c ≡ true → IsBehind p probed old c new → AllFits p probed old
+      → AllFits p probed new
+  fits_behind old new c may who some change h fits = record {
     cycle = fitting.behind p probed old new c may ok who some change h fits.cycle;
-    grants = grants_behind.behind p probed old new c may ok who some h bits fits.grants;
-    acknowledge = chain_behind.behind p probed old new c may ok who some there change h fits.acknowledge;
+    grants = grants_behind.behind p probed old new c may ok who some h fits.grants;
+    acknowledge = chain_behind.behind p probed old new c may ok who some change h fits.acknowledge;
   }
 
-  leads_fit : (first last : Standings) (cs : List Change) (h : Leads p probed first cs last) → AreWithin p probed first cs last h → AllFits p probed first → AllFits p probed last
-  leads_fit first last [] h within fits = subst (λ st. AllFits p probed st) (sym h) fits
-  leads_fit first last (c ∷ cs) h within fits =
-      fits_behind h.1 last c h.2 h.5 h.6 h.7 h.8 within.1.makers within.1.behind
-      (fits_hidden h.0 h.1 h.4 within.1.before (leads_fit first h.0 cs h.3 within.0 fits))
+  leads_fit : (first last : Standings) (cs : List Change) → Leads p probed first cs last → AllFits p probed first → AllFits p probed last
+  leads_fit first last [] h fits = subst (λ st. AllFits p probed st) (sym h) fits
+  leads_fit first last (c ∷ cs) h fits = fits_behind h.1 last c h.2 h.5 h.6 h.7 h.8 (fits_hidden h.0 h.1 h.4 (leads_fit first h.0 cs h.3 fits))
 
-pub led_fits : (p : Plan) (probed : Probed) (c : Capture) (last : Standings) → IsAccepted p → (led : IsLed p probed c last) → HoldsNoMore p probed c last led
-    → AllFits p probed last
-led_fits p probed c last ok led within =
-    fits_hidden p ok probed led.known.behind last led.known.hidden within.ends
-    (leads_fit p ok probed led.known.first led.known.behind c.changes led.leads within.changes
-    (starts_fit p ok probed c led.known.first led.known.probes led.known.starts within.begins led.high))
+pub led_fits : (p : Plan) (probed : Probed) (c : Capture) (last : Standings) → IsAccepted p → IsLed p probed c last → AllFits p probed last
+led_fits p probed c last ok led =
+    fits_hidden p ok probed led.known.behind last led.known.hidden
+    (leads_fit p ok probed led.known.first led.known.behind c.changes led.leads (starts_fit p ok probed c led.known.first led.known.probes led.known.starts led.high))
 
-pub led_hindered : (p : Plan) (probed : Probed) (c : Capture) (last : Standings) (v : Change) (may : Drivers) → IsAccepted p → (led : IsLed p probed c last)
-    → HoldsNoMore p probed c last led → AreDrivers p probed last v may → IsSeen p probed last v → is_change v ≡ true
+pub led_hindered : (p : Plan) (probed : Probed) (c : Capture) (last : Standings) (v : Change) (may : Drivers) → IsAccepted p → IsLed p probed c last
+    → AreDrivers p probed last v may → IsSeen p probed last v → is_change v ≡ true
     → AreOthersHindered p c.version last v may
-led_hindered p probed c last v may ok led within who seen change =
-    subst (λ x. AreOthersHindered p x last v may) (sym led.known.version) (all_hindered p probed last v may ok who (led_fits p probed c last ok led within) seen change)
+led_hindered p probed c last v may ok led who seen change =
+    subst (λ x. AreOthersHindered p x last v may) (sym led.known.version) (all_hindered p probed last v may ok who (led_fits p probed c last ok led) seen change)

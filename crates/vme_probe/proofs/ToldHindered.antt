@@ -40,7 +40,7 @@ use Rattle.vme_probe.specs.declared.judging.Known.{Known}
 use Rattle.vme_probe.specs.Hindered.{AreOthersHindered, is_hindered}
 use Rattle.vme_probe.specs.Holding.{EndsAtHead, IsKnown}
 use Rattle.vme_probe.specs.Knowing.{Begins, Begun, Follows as FollowsOne, IsStoppedAtEnd, IsUnbegun, Judged, Stops, StopsAt, StopsSample, seen_at}
-use Rattle.vme_probe.specs.Led.{HoldsNoMore, IsLed, Leads, TellsHindered}
+use Rattle.vme_probe.specs.Led.{IsLed, Leads, TellsHindered}
 use Rattle.vme_probe.specs.Probing.{IsImpossibleAtEnd, Probes, StopsIn}
 use Rattle.vme_probe.specs.Stopped.{stopped_text}
 use Rattle.vme_probe.proofs.Judged.{begun}
@@ -208,9 +208,9 @@ module _ (p : Plan) (ok : IsAccepted p) where
               is = is ∙ ap (λ l. lines ++ l) (stops.is ∙ ap (λ v. stopped_text p v stops.hidden (seen_at x.said c).moment c stops.owners) same);
               probed = t.probed;
               led = led_of before t stops.hidden stops.moved;
-              hindered = λ within.
+              hindered =
                   each_hindered x.version stops.hidden c stops.makers stops.owners
-                  (others_hindered before t stops.hidden stops.moved within stops.makers stops.makers_are) stops.nobody stops.owners_are;
+                  (others_hindered before t stops.hidden stops.moved stops.makers stops.makers_are) stops.nobody stops.owners_are;
             })
           where
             said_next : AllSaid p x.said → SaidBy p x.said (entry.Change c)
@@ -231,13 +231,12 @@ module _ (p : Plan) (ok : IsAccepted p) where
               leads = t.leads;
             }
 
-            others_hindered : (k : Known) (t : LedBy x.version x.said k) (hidden : Standings) (moved : HasMoved p k.probed k.standings hidden)
-                → HoldsNoMore p t.probed (capture_of x.version x.said) hidden (led_of k t hidden moved) → (makers : Drivers) → AreDrivers p k.probed hidden c makers
+            others_hindered : (k : Known) → LedBy x.version x.said k → (hidden : Standings) → HasMoved p k.probed k.standings hidden → (makers : Drivers) → AreDrivers p k.probed hidden c makers
                 → AreOthersHindered p x.version hidden c makers
-            others_hindered k t hidden moved within makers who =
+            others_hindered k t hidden moved makers who =
                 let all = read_first p bytes x.said (entry.Change c ∷ x.others) are in
                 let says = said_next all in
-                led_hindered p t.probed (capture_of x.version x.said) hidden c makers ok (led_of k t hidden moved) within
+                led_hindered p t.probed (capture_of x.version x.said) hidden c makers ok (led_of k t hidden moved)
                 (subst (λ y. AreDrivers p y hidden c makers) t.probed_is who)
                 (seen_next p ok x.version x.said all t.probed t.first t.starts c says t.probes k.standings hidden t.follows moved.lines moved.low)
                 (formed p x.said (entry.Change c) says)

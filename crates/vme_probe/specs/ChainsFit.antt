@@ -12,20 +12,16 @@ use Rattle.vme_captures.specs.declared.signals.Signal.TheVariants as signal
 use Rattle.vme_captures.specs.Wires.{wire_of}
 use Rattle.vme_standings.specs.declared.fronts.Fronts.{Fronts}
 use Rattle.vme_standings.specs.declared.phases.GrantPhase.{GrantPhase}
-use Rattle.vme_standings.specs.declared.phases.GrantPhase.TheVariants.{Idle, Granting, Held, Expired}
-use Rattle.vme_standings.specs.declared.phases.GrantPhases.{GrantPhases}
-use Rattle.vme_standings.specs.declared.standings.Drivers.{Drivers}
+use Rattle.vme_standings.specs.declared.phases.GrantPhase.TheVariants.{Expired}
 use Rattle.vme_standings.specs.declared.standings.Probed.{Probed}
 use Rattle.vme_standings.specs.declared.standings.Standings.{Standings}
 use Rattle.vme_standings.specs.Beginnings.{ShowsChain}
 use Rattle.vme_standings.specs.Driving.{is_left_low}
 use Rattle.vme_standings.specs.InPhase.{is_named}
-use Rattle.vme_standings.specs.Moving.{moved_by}
 use Rattle.vme_standings.specs.Phases.{has_phase, is_held, is_in_table}
 use Rattle.vme_standings.specs.Requests.{is_interrupter}
 use Rattle.vme_standings.specs.Segments.{has_segment}
 use Rattle.vme_standings.specs.Slots.{EachSlot}
-use Rattle.vme_standings.specs.Standings.{drives}
 use Rattle.vme_probe.specs.Demands.{is_chain_low}
 use Rattle.vme_probe.specs.Hindered.{FitsTogether}
 
@@ -48,11 +44,6 @@ pub record IsSeen (p : Plan) (probed : Probed) (st : Standings) (c : Change) : T
   pub probed_is : is_probed p probed c.signal ≡ true
   pub differs : is_signal_low p st c.signal ≡ not c.fall
 
--- each of these boards has the line of the change, or drives the wire of its pin
-abbrev pub HaveTheLine : Plan → Change → Drivers → Type 0
-HaveTheLine p c may =
-    (s : ℕ) → has may.boards s ≡ true → drives p (moved_by p c.signal) s ≡ true
-
 -- ---- the grants and BBSY*
 
 -- nobody took the grant
@@ -74,22 +65,6 @@ pub record AgreesWithProbes (p : Plan) (probed : Probed) (st : Standings)
 pub record GrantsFit (p : Plan) (probed : Probed) (st : Standings) : Type 0 where
   pub some : (q : GrantPhase) × (has_phase st.phases q ≡ true)
   pub each : (q : GrantPhase) → has_phase st.phases q ≡ true → AgreesWithProbes p probed st q
-
--- A set of phases has a bit for each of these: four levels, 22 numbers of slots, and the 32 bits of
--- a set of slots.
-abbrev pub has_bit : GrantPhase → Bool
-has_bit (Idle c) = nat_lt c 4
-has_bit (Granting c last) = nat_lt c 4 && nat_lt last 32
-has_bit (Held b first) = nat_lt b 22 && nat_lt first 32
-has_bit (Expired c first) = nat_lt c 4 && nat_lt first 32
-
--- it holds no others
-abbrev pub HoldsBits : GrantPhases → Type 0
-HoldsBits s = (q : GrantPhase) → has_phase s q ≡ true → has_bit q ≡ true
-
--- it holds none beyond the slots of a backplane
-abbrev pub AreInTable : GrantPhases → Type 0
-AreInTable s = (q : GrantPhase) → has_phase s q ≡ true → is_in_table q ≡ true
 
 -- ---- the acknowledge chain
 

@@ -21,7 +21,6 @@ use Rattle.vme_standings.specs.Covers.{Among}
 use Rattle.vme_standings.specs.Driving.{AreDrivers}
 use Rattle.vme_standings.specs.Hidden.{HasMoved}
 use Rattle.vme_standings.specs.Standings.{Drive, is_nobody}
-use Rattle.vme_probe.specs.ChainsFit.{AreInTable, HaveTheLine, HoldsBits}
 use Rattle.vme_probe.specs.Hindered.{is_hindered}
 use Rattle.vme_probe.specs.Holding.{IsKnown}
 use Rattle.vme_probe.specs.Stopped.{stopped_text}
@@ -42,30 +41,9 @@ pub record IsLed (p : Plan) (probed : Probed) (c : Capture) (last : Standings) :
   pub high : is_among c.lows (signal.Line line.DataStrobe) ≡ false
   pub leads : Leads p probed known.first c.changes known.behind
 
--- The sets of phases before and behind the change have no phase but those for which they have a
--- bit, and all who may have made it have its line.
-pub record IsWithin (p : Plan) (c : Change) (may : Drivers) (old new : Standings) : Type 0 where
-  pub makers : HaveTheLine p c may
-  pub before : HoldsBits old.phases
-  pub behind : HoldsBits new.phases
-
--- so it is at each change
-abbrev pub AreWithin : (p : Plan) (probed : Probed) (first : Standings) (cs : List Change)
-    (last : Standings) → Leads p probed first cs last → Type 0
-AreWithin p probed first [] last h = Unit {0}
-AreWithin p probed first (c ∷ earlier) last h =
-    AreWithin p probed first earlier h.0 h.3 × IsWithin p c h.2 h.1 last
-
--- So it is on the whole way, and the first phases lie within the slots of a backplane.
-pub record HoldsNoMore (p : Plan) (probed : Probed) (c : Capture) (last : Standings)
-    (led : IsLed p probed c last) : Type 0 where
-  pub begins : AreInTable led.known.first.phases
-  pub changes : AreWithin p probed led.known.first c.changes led.known.behind led.leads
-  pub ends : HoldsBits last.phases
-
 -- What was read ends at a change that is refused, and the lines of its drivers are those of what is
--- known before it. If the sets on the way hold no more than that, a condition is named in them for
--- each driver that has the line of the change, or drives the wire of its pin.
+-- known before it. In them a condition is named for each driver that has the line of the change, or
+-- drives the wire of its pin.
 pub record TellsHindered (p : Plan) (r : Reading) (text : List ℕ) : Type 0 where
   pub version : Version
   pub said : List Entry
@@ -80,5 +58,4 @@ pub record TellsHindered (p : Plan) (r : Reading) (text : List ℕ) : Type 0 whe
   pub is : text ≡ lines ++ stopped_text p version known moment change drivers
   pub probed : Probed
   pub led : IsLed p probed (capture_of version said) known
-  pub hindered : HoldsNoMore p probed (capture_of version said) known led
-      → (d : Driver) → Among drivers d → is_hindered p version known change d ≡ true
+  pub hindered : (d : Driver) → Among drivers d → is_hindered p version known change d ≡ true

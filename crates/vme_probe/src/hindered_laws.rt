@@ -10,7 +10,7 @@ ghost use Rattle.vme_captures.specs.declared.signals.Line.TheVariants as line;
 ghost use Rattle.vme_captures.specs.declared.signals.Signal.TheVariants as signal;
 ghost use Rattle.vme_model.specs.Accepted.{IsAccepted};
 ghost use Rattle.vme_model.specs.Plan.{Plan};
-ghost use Rattle.vme_probe.specs.ChainsFit.{AcknowledgeFits, AllFits, AreInTable, AreOnWires, GrantsFit, HaveTheLine, HoldsBits, IsSeen, is_of_acknowledge, is_of_grants};
+ghost use Rattle.vme_probe.specs.ChainsFit.{AcknowledgeFits, AllFits, AreOnWires, GrantsFit, IsSeen, is_of_acknowledge, is_of_grants};
 ghost use Rattle.vme_probe.specs.Hindered.{AreOthersHindered, FitsTogether};
 ghost use Rattle.vme_standings.specs.Behind.{IsBehind};
 ghost use Rattle.vme_standings.specs.Driving.{AreDrivers};
@@ -85,7 +85,7 @@ pub fn an_acknowledge_begins_fitting_together()
 {}
 
 /// What is known of the acknowledge chain stays fitting together with the edges that no probe sees,
-/// and behind a change that somebody may have made. All who may have made it have its line.
+/// and behind a change that somebody may have made.
 #[tactic(auto, using(crate::proofs::ChainKept::hidden, crate::proofs::ChainBehind::behind))]
 pub fn an_acknowledge_stays_fitting_together()
     ensures hidden { (p : Plan) (probed : Probed) (old new : Standings) → IsAccepted p
@@ -93,7 +93,7 @@ pub fn an_acknowledge_stays_fitting_together()
         → AcknowledgeFits p probed new }
     ensures behind { (p : Plan) (probed : Probed) (old new : Standings) (c : Change)
         (may : Drivers) → IsAccepted p → AreDrivers p probed old c may → is_nobody may ≡ false
-        → HaveTheLine p c may → is_change c ≡ true → IsBehind p probed old c new
+        → is_change c ≡ true → IsBehind p probed old c new
         → AcknowledgeFits p probed old → AcknowledgeFits p probed new }
 {}
 
@@ -101,10 +101,9 @@ pub fn an_acknowledge_stays_fitting_together()
 /// bus.
 pub fn grants_begin_fitting_together()
     ensures power_up { (p : Plan) (probed : Probed) (st : Standings) → IsPowerUp p st
-        → HoldsBits st.phases → GrantsFit p probed st }
-    ensures running { (p : Plan) (probed : Probed) (lines : Levels) (low : Segments)
-        (st : Standings) → Runs p probed lines low st → AreInTable st.phases
         → GrantsFit p probed st }
+    ensures running { (p : Plan) (probed : Probed) (lines : Levels) (low : Segments)
+        (st : Standings) → IsAccepted p → Runs p probed lines low st → GrantsFit p probed st }
 {}
 
 /// What is known of the grants stays fitting together with the edges that no probe sees, and behind
@@ -112,10 +111,8 @@ pub fn grants_begin_fitting_together()
 #[tactic(auto, using(crate::proofs::GrantsHidden::hidden, crate::proofs::GrantsBehind::behind))]
 pub fn grants_stay_fitting_together()
     ensures hidden { (p : Plan) (probed : Probed) (old new : Standings) → IsAccepted p
-        → HasMoved p probed old new → HoldsBits new.phases → GrantsFit p probed old
-        → GrantsFit p probed new }
+        → HasMoved p probed old new → GrantsFit p probed old → GrantsFit p probed new }
     ensures behind { (p : Plan) (probed : Probed) (old new : Standings) (c : Change)
         (may : Drivers) → IsAccepted p → AreDrivers p probed old c may → is_nobody may ≡ false
-        → IsBehind p probed old c new → HoldsBits new.phases → GrantsFit p probed old
-        → GrantsFit p probed new }
+        → IsBehind p probed old c new → GrantsFit p probed old → GrantsFit p probed new }
 {}

@@ -12,7 +12,7 @@ ghost use Rattle.vme_model.specs.Plan.{Plan};
 ghost use Rattle.vme_probe.specs.ChainsFit.{AllFits, IsSeen};
 ghost use Rattle.vme_probe.specs.Hindered.{AreOthersHindered};
 ghost use Rattle.vme_probe.specs.Holding.{EndsAtHead};
-ghost use Rattle.vme_probe.specs.Led.{HoldsNoMore, IsLed, TellsHindered};
+ghost use Rattle.vme_probe.specs.Led.{IsLed, TellsHindered};
 ghost use Rattle.vme_probe.specs.Probing.{Probes};
 ghost use Rattle.vme_reading.specs.Streams.{HasConsumed, IsReadOut, Streams, Wrote};
 ghost use Rattle.vme_reading.specs.declared.Status.TheVariants.{SomeRefused};
@@ -28,18 +28,13 @@ ghost use Rattle.vme_standings.specs.declared.standings.Standings.{Standings};
 /// So it is in what is printed. If a capture is impossible at a change, its last lines name a
 /// condition for each driver that has the line of the change, or drives the wire of its pin. If its
 /// head is refused, there is no change. Each change is a sample of its own here.
-///
-/// It is assumed, and not proved here, that the sets of what is known hold no more than they can:
-/// phases for which a set has a bit, at the beginning those of the slots of a backplane, and as
-/// makers of a change boards that have its line (`HoldsNoMore`).
 pub fn others_are_hindered_behind_a_capture()
     ensures fits { (p : Plan) (probed : Probed) (c : Capture) (last : Standings) → IsAccepted p
-        → (led : IsLed p probed c last) → HoldsNoMore p probed c last led
-        → AllFits p probed last }
+        → IsLed p probed c last → AllFits p probed last }
     ensures hindered { (p : Plan) (probed : Probed) (c : Capture) (last : Standings)
-        (v : Change) (may : Drivers) → IsAccepted p → (led : IsLed p probed c last)
-        → HoldsNoMore p probed c last led → AreDrivers p probed last v may → IsSeen p probed last v
-        → is_change v ≡ true → AreOthersHindered p c.version last v may }
+        (v : Change) (may : Drivers) → IsAccepted p → IsLed p probed c last
+        → AreDrivers p probed last v may → IsSeen p probed last v → is_change v ≡ true
+        → AreOthersHindered p c.version last v may }
     ensures printed { (p : Plan) (bytes : List ℕ) (s : Streams) → IsAccepted p
         → Probes p None bytes s (Ok SomeRefused)
         → (read : List ℕ) × (text : List ℕ)

@@ -104,7 +104,7 @@ pub record Runs (p : Plan) (probed : Probed) (lines : Levels) (low : Segments)
   pub shown : new.shown ≡ None
   pub strobed : new.strobed ≡ false
   pub phases : AreBeginnings p probed lines low new.phases
-  pub bits : HoldsBits new.phases
+  pub bits_are : HoldsBits new.phases
   pub addressers : (s : ℕ) → has new.addressers s ≡ false
   pub answerers : (s : ℕ) → has new.answerers s
       ≡ (is_line_left_low lines line.Dtack && is_some (board p s))

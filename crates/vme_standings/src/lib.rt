@@ -13,6 +13,7 @@
 
 mod beginnings;
 mod behind;
+mod bits;
 pub mod boards;
 pub mod chains;
 mod cuts;

@@ -2,8 +2,8 @@
 ghost use Rattle.std.specs.Prelude.{◌≡◌, ◌==◌, ◌&&◌, ◌||◌, ◌<◌, ℕ, false, true, if◌then◌else◌, Some};
 ghost use Rattle.vme_bus.specs.Sets.{has};
 ghost use Rattle.vme_standings.specs.declared.phases.GrantPhase.{GrantPhase as PhaseValue};
-ghost use Rattle.vme_standings.specs.declared.phases.GrantPhase.TheVariants.{Expired, Granting, Held};
-ghost use Rattle.vme_standings.specs.Phases.{ChangesExpired, ChangesGranting, ChangesHeld, ChangesIdle, HasExactly, HoldsBits, expired_row, granting_row, has_bit, has_phase, held_row, is_held, is_held_by, is_idle_at, is_in_table, level_of};
+ghost use Rattle.vme_standings.specs.declared.phases.GrantPhase.TheVariants.{Held};
+ghost use Rattle.vme_standings.specs.Phases.{ChangesExpired, ChangesGranting, ChangesHeld, ChangesIdle, HasExactly, expired_row, granting_row, has_phase, held_row, is_held, is_held_by, is_idle_at, is_in_table, level_of};
 
 use vme_bus::SlotSet;
 
@@ -38,11 +38,6 @@ pub(crate) fn row_if(is_there: bool, row: SlotSet) -> SlotSet
 {
     if is_there { row } else { SlotSet::NONE }
 }
-
-/// A law: a set of slots holds none beyond its bits.
-fn row_holds_bits(row: SlotSet)
-    ensures { (t : ℕ) → has row t ≡ true → t < 32 }
-{}
 
 /// A set of such phases, a bit for each.
 #[derive(Clone, Copy, PartialEq, Eq)]
@@ -189,45 +184,6 @@ impl GrantPhases {
             kept.set_held_row(board, row_if(boards.has(board), self.held_row(board)));
         }
         kept
-    }
-
-    /// A law: the set holds no phase beyond its bits.
-    pub fn holds_bits(&self)
-        ensures { HoldsBits self.now }
-    {
-        self.grants_hold_bits();
-        self.holders_hold_bits();
-        self.expired_hold_bits();
-    }
-
-    /// A law: the same of the grants that are under way.
-    fn grants_hold_bits(&self)
-        ensures { (c last : ℕ) → has_phase self.now (Granting c last) ≡ true
-            → has_bit (Granting c last) ≡ true }
-    {
-        for level in 0..4_u8 {
-            row_holds_bits(self.granting_row(level));
-        }
-    }
-
-    /// A law: the same of the holders.
-    fn holders_hold_bits(&self)
-        ensures { (b first : ℕ) → has_phase self.now (Held b first) ≡ true
-            → has_bit (Held b first) ≡ true }
-    {
-        for board in 0..22_u8 {
-            row_holds_bits(self.held_row(board));
-        }
-    }
-
-    /// A law: the same of the grants that nobody took.
-    fn expired_hold_bits(&self)
-        ensures { (c first : ℕ) → has_phase self.now (Expired c first) ≡ true
-            → has_bit (Expired c first) ≡ true }
-    {
-        for level in 0..4_u8 {
-            row_holds_bits(self.expired_row(level));
-        }
     }
 
     /// Whether the set has a phase in which nobody holds the bus.

@@ -4,7 +4,7 @@ use Rattle.std.proofs.lemmas.Bool.Decides.{nat_tests}
 use Rattle.vme_bus.proofs.Masks.{beyond}
 use Rattle.vme_bus.specs.declared.sets.SlotSet.{SlotSet}
 use Rattle.vme_bus.specs.Sets.{has}
-use Rattle.vme_standings.proofs.phases.row_holds_bits.Goals as goal
+use Rattle.vme_standings.proofs.bits.row_holds_bits.Goals as goal
 
 within : (row : SlotSet) (t : ℕ) → row.bits < 2 ^ 32 → has row t ≡ true → (b : Bool) → nat_lt t 32 ≡ b → t < 32
 within row t small h true e = grind (arith, nat_tests)
